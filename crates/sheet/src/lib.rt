@@ -1,0 +1,11 @@
+// A sheet: the channels that each station may use, and the rules about them.
+mod form;
+mod valid;
+
+pub use form::Claim;
+pub use form::Form;
+pub use form::Node;
+pub use form::Rule;
+pub use form::Shape;
+pub use form::Slot;
+pub use valid::Sheet;

@@ -1,0 +1,20 @@
+// The type of accepted sheets.
+ghost use Prim.Native.Nat.{_≤_};
+ghost use Rattle.std.specs.Of.Vec.{vec-items, vec-len};
+ghost use Rattle.sheet.specs.Sound.{Sound-nodes, Sound-rules};
+use crate::form::Node;
+use crate::form::Rule;
+
+// A sheet that keeps the limits, and whose nodes and rules name only what is there, of the right sort and not too deep.
+#[derive(Drop)]
+pub struct Sheet {
+    pub stations: Vec<u64>,
+    pub nodes: Vec<Node>,
+    pub rules: Vec<Rule>,
+    ghost some_station: { 1 ≤ vec-len stations },
+    ghost few_stations: { vec-len stations ≤ 32 },
+    ghost few_nodes: { vec-len nodes ≤ 255 },
+    ghost few_rules: { vec-len rules ≤ 255 },
+    ghost nodes_sound: { Sound-nodes (vec-len stations) (vec-items nodes) },
+    ghost rules_sound: { Sound-rules (vec-len stations) (vec-items nodes) (vec-items rules) },
+}
