@@ -7,12 +7,12 @@ use lib.ListN.{length, getD, take}
 use mathlib.Core.Bool.{Bool, true, false, not, _&&_}
 use mathlib.Core.Path.{_≡_}
 use mathlib.Core.List.{List}
-use Rattle.sheet.specs.Kinds.{shape, fields, Fields}
-use Rattle.sheet.specs.declared.form.Form.{Form}
-use Rattle.sheet.specs.declared.form.Form.the-variants.{Number, Station, Sum, Difference, Multiple, Quotient, Remainder, Between, AtLeast, AtMost, Channels, Union, Intersection, Complement, Shift}
+use Rattle.sheet.specs.Kinds.{shape-of, fields-of, is-term}
+use Rattle.sheet.specs.declared.form.Form.the-variants.{Number}
 use Rattle.sheet.specs.declared.form.Slot.{Slot}
 use Rattle.sheet.specs.declared.form.Slot.the-variants as slot
 use Rattle.sheet.specs.declared.form.Shape.{Shape}
+use Rattle.sheet.specs.declared.form.Fields.{Fields}
 use Rattle.sheet.specs.declared.form.Node.{Node}
 use Rattle.sheet.specs.declared.form.Claim.{Claim}
 use Rattle.sheet.specs.declared.form.Rule.{Rule}
@@ -25,24 +25,6 @@ no-node = record { form = Number (pos 0); depth = 0 }
 -- the rule read where a number is past the last one
 abbrev pub no-rule : Rule
 no-rule = Plain (record { station = 0; range = 0 })
-
--- whether a node is a term; the others are ranges
-abbrev pub is-term : Form → Bool
-is-term (Number k) = true
-is-term (Station s) = true
-is-term (Sum a b) = true
-is-term (Difference a b) = true
-is-term (Multiple k a) = true
-is-term (Quotient a k) = true
-is-term (Remainder a k) = true
-is-term (Between a b) = false
-is-term (AtLeast a) = false
-is-term (AtMost a) = false
-is-term (Channels s) = false
-is-term (Union a b) = false
-is-term (Intersection a b) = false
-is-term (Complement a) = false
-is-term (Shift a b) = false
 
 -- a number k lies within limits, both included
 abbrev pub within : ℤ → ℤ → ℤ → Bool
@@ -83,7 +65,7 @@ sound-row n before depth row f =
 
 -- a node may stand behind the nodes before it, on a sheet of n stations
 abbrev pub sound-node : ℕ → List Node → Node → Bool
-sound-node n before x = sound-row n before (x .depth) (shape (x .form)) (fields (x .form))
+sound-node n before x = sound-row n before (x .depth) (shape-of (x .form)) (fields-of (x .form))
 
 -- a claim names a station and a range that are there
 abbrev pub sound-claim : ℕ → List Node → Claim → Bool

@@ -60,3 +60,12 @@ pub struct Shape {
     pub least: i16,
     pub greatest: i16,
 }
+
+// The fields of a node's record: its kind, two bytes and a number.
+#[derive(Clone, Copy)]
+pub struct Fields {
+    pub kind: u8,
+    pub a: u8,
+    pub b: u8,
+    pub k: i16,
+}

@@ -1,8 +1,10 @@
 // A sheet: the channels that each station may use, and the rules about them.
 mod form;
+mod kinds;
 mod valid;
 
 pub use form::Claim;
+pub use form::Fields;
 pub use form::Form;
 pub use form::Node;
 pub use form::Rule;

@@ -1,0 +1,17 @@
+-- What was read so far, in the code.
+use mathlib.Core.Path.{_≡_}
+use Rattle.std.specs.Of.Vec.{vec-items}
+use Rattle.std.specs.declared.result.Result.{Result}
+use Rattle.std.specs.declared.result.Result.the-variants.{Ok, Err}
+use Rattle.faults.specs.declared.SheetFault.{SheetFault}
+use Rattle.sheet.specs.Content.{Content}
+use Rattle.reading.specs.Reading.{Refuses}
+use Rattle.reading.specs.declared.draft.Draft.{Draft}
+
+abbrev pub drafted : Draft → Content
+drafted d = record { stations = vec-items (d .stations); nodes = vec-items (d .nodes); rules = vec-items (d .rules) }
+
+-- an answer to one record more, and what was read then
+abbrev pub Adds : Result Content SheetFault → Result (Unit {0}) SheetFault → Draft → Type 0
+Adds x (Ok _) d = x ≡ Ok (drafted d)
+Adds x (Err e) d = Refuses x e

@@ -1,0 +1,133 @@
+// What was read so far, and one record more.
+ghost use Prim.Native.Nat.{_≤_};
+ghost use mathlib.Core.Path.{_≡_};
+ghost use lib.ListN.{length};
+ghost use Rattle.records.specs.Records.{part as part-of, size, station, node, rule};
+ghost use Rattle.reading.specs.Drafts.{drafted, Adds};
+ghost use Rattle.reading.specs.Reading.{nothing, added};
+ghost use Rattle.reading.specs.Records.{station-of, node-of, rule-of};
+use crate::decode::node;
+use crate::decode::rule;
+use crate::decode::word;
+use faults::Flaw;
+use faults::Place;
+use faults::SheetFault;
+use faults::SheetFromRefused;
+use records::Placed;
+use records::Record;
+use sheet::Node;
+use sheet::Rule;
+use std::alloc::Global;
+
+#[derive(Drop)]
+pub struct Draft {
+    pub stations: Vec<u64>,
+    pub nodes: Vec<Node>,
+    pub rules: Vec<Rule>,
+}
+
+impl Draft {
+    pub fn new(heap: Global) -> Draft
+        ensures { λ r. ⌜ drafted r ≡ nothing ⌝ }
+    {
+        Draft {
+            stations: Vec::new(heap),
+            nodes: Vec::new(heap),
+            rules: Vec::new(heap),
+        }
+    }
+
+    // The channels of a station's record.
+    fn station(&self, part: &[u8]) -> Result<u64, Flaw>
+        requires { ⌜ length (now part) ≡ 10 ⌝ }
+        ensures { λ r. ⌜ r ≡ station-of (drafted (now (self .entry))) (now (part .entry)) ⌝ }
+    {
+        if self.nodes.len() > 0 || self.rules.len() > 0 {
+            return Err(Flaw::OutOfOrder);
+        }
+        if self.stations.len() >= 32 {
+            return Err(Flaw::TooMany);
+        }
+        let channels = word(part);
+        if channels == 0 {
+            return Err(Flaw::NoChannel);
+        }
+        Ok(channels)
+    }
+
+    // The node of a node's record.
+    fn node(&self, part: &[u8]) -> Result<Node, Flaw>
+        requires { ⌜ length (now part) ≡ 7 ⌝ }
+        ensures { λ r. ⌜ r ≡ node-of (drafted (now (self .entry))) (now (part .entry)) ⌝ }
+    {
+        if self.rules.len() > 0 {
+            return Err(Flaw::OutOfOrder);
+        }
+        if self.nodes.len() >= 255 {
+            return Err(Flaw::TooMany);
+        }
+        node(self.stations.len(), self.nodes.as_slice(), part)
+    }
+
+    // The rule of a rule's record.
+    fn rule(&self, part: &[u8]) -> Result<Rule, Flaw>
+        requires { ⌜ length (now part) ≡ 7 ⌝ }
+        ensures { λ r. ⌜ r ≡ rule-of (drafted (now (self .entry))) (now (part .entry)) ⌝ }
+    {
+        if self.rules.len() >= 255 {
+            return Err(Flaw::TooMany);
+        }
+        rule(self.stations.len(), self.nodes.as_slice(), part)
+    }
+
+    fn add_station(&mut self, part: &[u8], place: Place) -> Result<(), SheetFault>
+        requires { ⌜ length (now part) ≡ 10 ⌝ }
+        ensures { λ r. ⌜ Adds (added (drafted (now (self .entry))) station (now (part .entry)) place) r (now (self .exit)) ⌝ }
+    {
+        match self.station(part) {
+            Ok(channels) => {
+                self.stations.push(channels)?;
+                Ok(())
+            }
+            Err(flaw) => Err(SheetFault::Record(flaw, place)),
+        }
+    }
+
+    fn add_node(&mut self, part: &[u8], place: Place) -> Result<(), SheetFault>
+        requires { ⌜ length (now part) ≡ 7 ⌝ }
+        ensures { λ r. ⌜ Adds (added (drafted (now (self .entry))) node (now (part .entry)) place) r (now (self .exit)) ⌝ }
+    {
+        match self.node(part) {
+            Ok(found) => {
+                self.nodes.push(found)?;
+                Ok(())
+            }
+            Err(flaw) => Err(SheetFault::Record(flaw, place)),
+        }
+    }
+
+    fn add_rule(&mut self, part: &[u8], place: Place) -> Result<(), SheetFault>
+        requires { ⌜ length (now part) ≡ 7 ⌝ }
+        ensures { λ r. ⌜ Adds (added (drafted (now (self .entry))) rule (now (part .entry)) place) r (now (self .exit)) ⌝ }
+    {
+        match self.rule(part) {
+            Ok(found) => {
+                self.rules.push(found)?;
+                Ok(())
+            }
+            Err(flaw) => Err(SheetFault::Record(flaw, place)),
+        }
+    }
+
+    // One record more, or what is wrong with it.
+    pub fn add(&mut self, placed: Placed<'_>) -> Result<(), SheetFault>
+        requires { ⌜ length (part-of (placed .«record») .bytes) ≡ size (part-of (placed .«record») .sort) ⌝ }
+        ensures { λ r. ⌜ Adds (added (drafted (now (self .entry))) (part-of (placed .entry .«record») .sort) (part-of (placed .entry .«record») .bytes) (placed .entry .place)) r (now (self .exit)) ⌝ }
+    {
+        match placed.record {
+            Record::Station(part) => self.add_station(part, placed.place),
+            Record::Node(part) => self.add_node(part, placed.place),
+            Record::Rule(part) => self.add_rule(part, placed.place),
+        }
+    }
+}
