@@ -53,15 +53,15 @@ finished c at = cond (eqb (length (c .stations)) 0) (Err (NoStation at)) (Ok c)
 unfoldable pub onto : ℕ → Content → Place → List ℕ → Result Content SheetFault
 onto zero c at bytes = finished c at
 onto (suc n) c at bytes =
-    elim (front bytes)
-    [ end ↦ finished c at
-    | cut ↦ Err (Bytes (Cut at))
-    | unknown ↦ Err (Bytes (UnknownMark at))
-    | whole p rest ↦
-        elim (added c (p .sort) (p .bytes) at)
-        [ Ok d ↦ onto n d (next-place at (whole p rest)) rest
-        | Err e ↦ Err e
-        ]
+    elim (front bytes) [
+      | end ↦ finished c at
+      | cut ↦ Err (Bytes (Cut at))
+      | unknown ↦ Err (Bytes (UnknownMark at))
+      | whole p rest ↦
+          elim (added c (p .sort) (p .bytes) at) [
+            | Ok d ↦ onto n d (next-place at (whole p rest)) rest
+            | Err e ↦ Err e
+          ]
     ]
 
 -- what some bytes are read as

@@ -87,7 +87,7 @@ abbrev pub rule-of-slots : ℕ → List Node → Claim → Slot → Slot → Cla
 rule-of-slots n nodes first s r second x =
     cond
     (not ((there n nodes slot.Station (first .station) && there n nodes slot.Range (first .range))
-      && (there n nodes s (second .station) && there n nodes r (second .range))))
+    && (there n nodes s (second .station) && there n nodes r (second .range))))
     (Err NotThere)
     (cond (not (of-sort nodes slot.Range (first .range) && of-sort nodes r (second .range))) (Err WrongSort) (Ok x))
 

@@ -40,7 +40,10 @@ pub fn node_at(nodes: &[Node], v: u8) -> Node
 {
     match nodes.get(v as usize) {
         Some(node) => *node,
-        None => Node { form: Form::Number(0), depth: 0 },
+        None => Node {
+            form: Form::Number(0),
+            depth: 0,
+        },
     }
 }
 

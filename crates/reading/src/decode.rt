@@ -24,11 +24,22 @@ fn node_fields(part: &[u8]) -> Fields
     let [_, _, kind, a, b, high, low] = part else {
         unreachable();
     };
-    Fields { kind: *kind, a: *a, b: *b, k: i16::from_be_bytes([*high, *low]) }
+    Fields {
+        kind: *kind,
+        a: *a,
+        b: *b,
+        k: i16::from_be_bytes([*high, *low]),
+    }
 }
 
 // A node of a known kind, behind the nodes before it.
-fn node_of_row(stations: usize, nodes: &[Node], form: Form, row: Shape, fields: Fields) -> Result<Node, Flaw>
+fn node_of_row(
+    stations: usize,
+    nodes: &[Node],
+    form: Form,
+    row: Shape,
+    fields: Fields,
+) -> Result<Node, Flaw>
     ensures { λ r. ⌜ r ≡ node-of-row stations (now (nodes .entry)) form row fields ⌝ }
 {
     if !number_fits(row, fields.k) {
@@ -44,7 +55,10 @@ fn node_of_row(stations: usize, nodes: &[Node], form: Form, row: Shape, fields: 
     if depth > 8 {
         return Err(Flaw::TooDeep);
     }
-    Ok(Node { form, depth: depth as u8 })
+    Ok(Node {
+        form,
+        depth: depth as u8,
+    })
 }
 
 // A node by its record, behind the nodes before it.
@@ -60,13 +74,20 @@ pub fn node(stations: usize, nodes: &[Node], part: &[u8]) -> Result<Node, Flaw>
 }
 
 // A rule whose first claim is a station and a range, and whose second claim's bytes stand for what is given.
-fn rule_of_slots(stations: usize, nodes: &[Node], first: Claim, slots: (Slot, Slot), second: Claim, rule: Rule) -> Result<Rule, Flaw>
+fn rule_of_slots(
+    stations: usize,
+    nodes: &[Node],
+    first: Claim,
+    slots: (Slot, Slot),
+    second: Claim,
+    rule: Rule,
+) -> Result<Rule, Flaw>
     ensures { λ r. ⌜ r ≡ rule-of-slots stations (now (nodes .entry)) first (slots .0) (slots .1) second rule ⌝ }
 {
-    let first_there =
-        is_there(stations, nodes, Slot::Station, first.station) && is_there(stations, nodes, Slot::Range, first.range);
-    let second_there =
-        is_there(stations, nodes, slots.0, second.station) && is_there(stations, nodes, slots.1, second.range);
+    let first_there = is_there(stations, nodes, Slot::Station, first.station)
+        && is_there(stations, nodes, Slot::Range, first.range);
+    let second_there = is_there(stations, nodes, slots.0, second.station)
+        && is_there(stations, nodes, slots.1, second.range);
     if !(first_there && second_there) {
         return Err(Flaw::NotThere);
     }
@@ -84,11 +105,31 @@ pub fn rule(stations: usize, nodes: &[Node], part: &[u8]) -> Result<Rule, Flaw>
     let [_, _, kind, station, range, second_station, second_range] = part else {
         unreachable();
     };
-    let first = Claim { station: *station, range: *range };
-    let second = Claim { station: *second_station, range: *second_range };
+    let first = Claim {
+        station: *station,
+        range: *range,
+    };
+    let second = Claim {
+        station: *second_station,
+        range: *second_range,
+    };
     match *kind {
-        0 => rule_of_slots(stations, nodes, first, (Slot::Nothing, Slot::Nothing), second, Rule::Plain(first)),
-        1 => rule_of_slots(stations, nodes, first, (Slot::Station, Slot::Range), second, Rule::Conditional(first, second)),
+        0 => rule_of_slots(
+            stations,
+            nodes,
+            first,
+            (Slot::Nothing, Slot::Nothing),
+            second,
+            Rule::Plain(first),
+        ),
+        1 => rule_of_slots(
+            stations,
+            nodes,
+            first,
+            (Slot::Station, Slot::Range),
+            second,
+            Rule::Conditional(first, second),
+        ),
         _ => Err(Flaw::UnknownKind),
     }
 }

@@ -12,7 +12,12 @@ impl Shape {
     fn plain(a: Slot, b: Slot) -> Shape
         ensures { λ r. ⌜ r ≡ record { a = a; b = b; least = pos 0; greatest = pos 0 } ⌝ }
     {
-        Shape { a, b, least: 0, greatest: 0 }
+        Shape {
+            a,
+            b,
+            least: 0,
+            greatest: 0,
+        }
     }
 }
 
@@ -74,7 +79,8 @@ impl Form {
             Form::Number(_) | Form::Station(_) | Form::Sum(..) | Form::Difference(..) => true,
             Form::Multiple(..) | Form::Quotient(..) | Form::Remainder(..) => true,
             Form::Between(..) | Form::AtLeast(_) | Form::AtMost(_) | Form::Channels(_) => false,
-            Form::Union(..) | Form::Intersection(..) | Form::Complement(_) | Form::Shift(..) => false,
+            Form::Union(..) | Form::Intersection(..) | Form::Complement(_) | Form::Shift(..) =>
+                false,
         }
     }
 
@@ -83,11 +89,29 @@ impl Form {
         ensures { λ r. ⌜ r ≡ shape-of (now (self .entry)) ⌝ }
     {
         match *self {
-            Form::Number(_) => Shape { a: Slot::Nothing, b: Slot::Nothing, least: -1000, greatest: 1000 },
-            Form::Multiple(..) => Shape { a: Slot::Term, b: Slot::Nothing, least: -16, greatest: 16 },
-            Form::Quotient(..) | Form::Remainder(..) => Shape { a: Slot::Term, b: Slot::Nothing, least: 1, greatest: 64 },
+            Form::Number(_) => Shape {
+                a: Slot::Nothing,
+                b: Slot::Nothing,
+                least: -1000,
+                greatest: 1000,
+            },
+            Form::Multiple(..) => Shape {
+                a: Slot::Term,
+                b: Slot::Nothing,
+                least: -16,
+                greatest: 16,
+            },
+            Form::Quotient(..) | Form::Remainder(..) => Shape {
+                a: Slot::Term,
+                b: Slot::Nothing,
+                least: 1,
+                greatest: 64,
+            },
             Form::Station(_) | Form::Channels(_) => Shape::plain(Slot::Station, Slot::Nothing),
-            Form::Sum(..) | Form::Difference(..) | Form::Between(..) => Shape::plain(Slot::Term, Slot::Term),
+            Form::Sum(..) | Form::Difference(..) | Form::Between(..) => Shape::plain(
+                Slot::Term,
+                Slot::Term,
+            ),
             Form::AtLeast(_) | Form::AtMost(_) => Shape::plain(Slot::Term, Slot::Nothing),
             Form::Union(..) | Form::Intersection(..) => Shape::plain(Slot::Range, Slot::Range),
             Form::Complement(_) => Shape::plain(Slot::Range, Slot::Nothing),
