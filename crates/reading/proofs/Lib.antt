@@ -2,3 +2,4 @@ pub mod Fields
 pub mod Validity
 pub mod Onto
 pub mod Turn
+pub mod Definite

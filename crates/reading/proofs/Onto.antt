@@ -12,6 +12,7 @@ use Rattle.std.specs.declared.result.Result.{Result}
 use Rattle.std.specs.declared.result.Result.the-variants.{Ok, Err}
 use Rattle.faults.specs.declared.Place.{Place}
 use Rattle.faults.specs.declared.BytesFault.{BytesFault}
+use Rattle.faults.specs.declared.BytesFault.the-variants.{Cut, UnknownMark}
 use Rattle.faults.specs.declared.SheetFault.{SheetFault}
 use Rattle.faults.specs.declared.SheetFault.the-variants.{Bytes}
 use Rattle.records.specs.Records.{Sort, Part, Sight, end, cut, unknown, whole, size, front, marked, of-mark, of-size}
@@ -52,6 +53,29 @@ module _ (c : Content) (at : Place) (bytes : List ℕ) (more : 0 < length bytes)
   flawed-at : (n : ℕ) (p : Part) (rest : List ℕ) (e : SheetFault) → front bytes ≡ whole p rest → added c (p .sort) (p .bytes) at ≡ Err e → onto (suc n) c at bytes ≡ Err e
   unfolding onto
   flawed-at n p rest e f h = rw (f, onto) (rw h)
+
+-- what one turn of reading comes to
+pub data Step (n : ℕ) (c : Content) (at : Place) (bytes : List ℕ) (r : Result Content SheetFault) : Type 0 where
+  ended : length bytes ≡ 0 → finished c at ≡ r → Step n c at bytes r
+  broken : (f : BytesFault) → Err (Bytes f) ≡ r → Step n c at bytes r
+  flawed : (p : Part) (rest : List ℕ) (e : SheetFault) → front bytes ≡ whole p rest → added c (p .sort) (p .bytes) at ≡ Err e → Err e ≡ r → Step n c at bytes r
+  further : (p : Part) (rest : List ℕ) (d : Content) → front bytes ≡ whole p rest → added c (p .sort) (p .bytes) at ≡ Ok d → onto n d (next-place at (whole p rest)) rest ≡ r → Step n c at bytes r
+
+record-step : (n : ℕ) (c : Content) (at : Place) (bytes : List ℕ) (r : Result Content SheetFault) (p : Part) (rest : List ℕ) (a : Result Content SheetFault)
+    → front bytes ≡ whole p rest → added c (p .sort) (p .bytes) at ≡ a → onto (suc n) c at bytes ≡ r → Step n c at bytes r
+unfolding onto
+record-step n c at bytes r p rest (Ok d) f h e = further p rest d f h (sym (rw (f, onto) (rw h)) ∙ e)
+record-step n c at bytes r p rest (Err g) f h e = flawed p rest g f h (sym (rw (f, onto) (rw h)) ∙ e)
+
+step-at : (n : ℕ) (c : Content) (at : Place) (bytes : List ℕ) (r : Result Content SheetFault) (s : Sight) → front bytes ≡ s → onto (suc n) c at bytes ≡ r → Step n c at bytes r
+unfolding onto
+step-at n c at bytes r end f e = ended (front-end bytes f) (sym (rw (f, onto)) ∙ e)
+step-at n c at bytes r cut f e = broken (Cut at) (sym (rw (f, onto)) ∙ e)
+step-at n c at bytes r unknown f e = broken (UnknownMark at) (sym (rw (f, onto)) ∙ e)
+step-at n c at bytes r (whole p rest) f e = record-step n c at bytes r p rest (added c (p .sort) (p .bytes) at) f refl e
+
+pub step : (n : ℕ) (c : Content) (at : Place) (bytes : List ℕ) (r : Result Content SheetFault) → onto (suc n) c at bytes ≡ r → Step n c at bytes r
+step n c at bytes r e = step-at n c at bytes r (front bytes) refl e
 
 -- reading the bytes that are left onto what was read gives an answer
 pub record Still (c : Content) (at : Place) (bytes : List ℕ) (x : Result Content SheetFault) : Type 0 where

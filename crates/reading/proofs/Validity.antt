@@ -51,7 +51,7 @@ chain :
 chain a b c d e₁ e₂ e₃ e₄ x y h = grind arith
 
 -- the checks of a node's row
-row-passed : (n : ℕ) (before : List Node) (form : Form) (row : Shape) (f : Fields) (x : Node) → node-of-row n before form row f ≡ Ok x → Passed n before form row f x
+pub row-passed : (n : ℕ) (before : List Node) (form : Form) (row : Shape) (f : Fields) (x : Node) → node-of-row n before form row f ≡ Ok x → Passed n before form row f x
 row-passed n before form row f x e =
     let c = chain
     (number-fits row (f .k))
@@ -101,7 +101,7 @@ nodes-more n nodes x h new i lt =
     (cases-lt i (length nodes))
 
 -- what it says that a rule passes the checks of its slots
-slots-passed :
+pub slots-passed :
     (n : ℕ) (nodes : List Node) (first : Claim) (s r : Slot) (second : Claim) (x y : Rule)
     → rule-of-slots n nodes first s r second x ≡ Ok y
     → (sound-claim n nodes first ≡ true)
@@ -146,7 +146,7 @@ rules-more n nodes rules x h new i lt =
     (cases-lt i (length rules))
 
 -- two tests before a record's own
-guarded : {X : Type 0} (a b : Bool) (e₁ e₂ : Flaw) (r : Result X Flaw) (y : X) → cond a (Err e₁) (cond b (Err e₂) r) ≡ Ok y → (a ≡ false) × (b ≡ false) × (r ≡ Ok y)
+pub guarded : {X : Type 0} (a b : Bool) (e₁ e₂ : Flaw) (r : Result X Flaw) (y : X) → cond a (Err e₁) (cond b (Err e₂) r) ≡ Ok y → (a ≡ false) × (b ≡ false) × (r ≡ Ok y)
 guarded a b e₁ e₂ r y h = grind arith
 
 station-valid : (c : Content) (part : List ℕ) (x : ℕ) → Valid c → station-of c part ≡ Ok x → Valid (with-station c x)
@@ -190,7 +190,7 @@ rule-valid c part x v e =
           (kind-sound (length (c .stations)) (c .nodes) (eqb (getD part 2 0) 0) (eqb (getD part 2 0) 1) part x (g .2));
     }
 
-put-granted : {X : Type 0} (more : X → Content) (at : Place) (r : Result X Flaw) (d : Content) → put more at r ≡ Ok d → (x : X) × (r ≡ Ok x) × (d ≡ more x)
+pub put-granted : {X : Type 0} (more : X → Content) (at : Place) (r : Result X Flaw) (d : Content) → put more at r ≡ Ok d → (x : X) × (r ≡ Ok x) × (d ≡ more x)
 put-granted more at (Ok x) d e = (x, refl, cc)
 put-granted more at (Err f) d e = grind arith
 

@@ -37,6 +37,20 @@ front-taken bytes p rest e = by-tests (eqb (length bytes) 0) (ltb (length bytes)
     by-tests false true h = grind arith
     by-tests false false h = of-mark-taken (marked (getD bytes 0 0) (getD bytes 1 0)) bytes p rest h
 
+-- the mark says the sort
+of-mark-sort : (o : Option Sort) (bytes : List ℕ) (p : Part) (rest : List ℕ) → of-mark o bytes ≡ whole p rest → o ≡ Some (p .sort)
+of-mark-sort None bytes p rest e = grind arith
+of-mark-sort (Some s) bytes p rest e = grind (arith, tells)
+
+pub front-marked : (bytes : List ℕ) (p : Part) (rest : List ℕ) → front bytes ≡ whole p rest → marked (getD bytes 0 0) (getD bytes 1 0) ≡ Some (p .sort)
+unfolding front
+front-marked bytes p rest e = by-tests (eqb (length bytes) 0) (ltb (length bytes) 2) e
+  where
+    by-tests : (a b : Bool) → cond a end (cond b cut (of-mark (marked (getD bytes 0 0) (getD bytes 1 0)) bytes)) ≡ whole p rest → marked (getD bytes 0 0) (getD bytes 1 0) ≡ Some (p .sort)
+    by-tests true b h = grind arith
+    by-tests false true h = grind arith
+    by-tests false false h = of-mark-sort (marked (getD bytes 0 0) (getD bytes 1 0)) bytes p rest h
+
 -- a record has seven bytes or more
 pub size-least : (s : Sort) → 7 ≤ size s
 size-least station = omega arith

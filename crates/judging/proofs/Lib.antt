@@ -1,0 +1,3 @@
+pub mod Bits
+pub mod Bounds
+pub mod Nodes

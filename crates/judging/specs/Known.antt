@@ -1,0 +1,65 @@
+-- What a sheet promises of a node, by what the node says.
+use Prim.Native.Nat.{ℕ, _*_, _<_, _≤_}
+use lib.IntN.{ℤ, pos, natAbs}
+use lib.ListN.{length, getD}
+use mathlib.Core.Bool.{Bool, true, false}
+use mathlib.Core.List.{List}
+use mathlib.Core.Path.{_≡_}
+use Rattle.judging.specs.Bounds.{bound}
+use Rattle.sheet.specs.Sound.{no-node, is-term}
+use Rattle.sheet.specs.declared.form.Node.{Node}
+use Rattle.sheet.specs.declared.form.Claim.{Claim}
+use Rattle.sheet.specs.declared.form.Rule.{Rule}
+use Rattle.sheet.specs.declared.form.Rule.the-variants.{Plain, Conditional}
+use Rattle.sheet.specs.declared.form.Form.{Form}
+use Rattle.sheet.specs.declared.form.Form.the-variants.{Number, Station, Sum, Difference, Multiple, Quotient, Remainder, Between, AtLeast, AtMost, Channels, Union, Intersection, Complement, Shift}
+
+abbrev pub depth-at : List Node → ℕ → ℕ
+depth-at nodes i = getD nodes i no-node .depth
+
+-- whether node v is a term; the others are ranges
+abbrev pub term-at : List Node → ℕ → Bool
+term-at nodes v = is-term (getD nodes v no-node .form)
+
+-- node i names node v: an earlier one that is less deep, and a term or a range as is wanted
+pub record Names (term : Bool) (nodes : List Node) (i v : ℕ) : Type 0 where
+  pub sort : term-at nodes v ≡ term
+  pub earlier : v < i
+  pub deeper : depth-at nodes v < depth-at nodes i
+  pub shallow : depth-at nodes i ≤ 8
+  pub wide : 1000 ≤ bound (depth-at nodes i)
+  pub room : 16 * bound (depth-at nodes v) ≤ bound (depth-at nodes i)
+  pub limit : bound (depth-at nodes i) ≤ 268435456000
+
+-- a number that is at least 1 and at most 64
+pub record Divisor (k : ℤ) : Type 0 where
+  pub positive : pos (natAbs k) ≡ k
+  pub some : 1 ≤ natAbs k
+  pub few : natAbs k ≤ 64
+
+abbrev pub Known : List Node → ℕ → Form → Type 0
+Known nodes i (Number k) = (natAbs k ≤ 1000) × (1000 ≤ bound (depth-at nodes i))
+Known nodes i (Station s) = (s < 32) × (1000 ≤ bound (depth-at nodes i))
+Known nodes i (Sum a b) = Names true nodes i a × Names true nodes i b
+Known nodes i (Difference a b) = Names true nodes i a × Names true nodes i b
+Known nodes i (Multiple k a) = (natAbs k ≤ 16) × Names true nodes i a
+Known nodes i (Quotient a k) = Divisor k × Names true nodes i a
+Known nodes i (Remainder a k) = Divisor k × Names true nodes i a
+Known nodes i (Between a b) = Names true nodes i a × Names true nodes i b
+Known nodes i (AtLeast a) = Names true nodes i a
+Known nodes i (AtMost a) = Names true nodes i a
+Known nodes i (Channels s) = s < 32
+Known nodes i (Union a b) = Names false nodes i a × Names false nodes i b
+Known nodes i (Intersection a b) = Names false nodes i a × Names false nodes i b
+Known nodes i (Complement a) = Names false nodes i a
+Known nodes i (Shift a b) = Names false nodes i a × Names true nodes i b
+
+-- a claim names a station and a range that are there
+pub record Placed (stations : ℕ) (nodes : List Node) (c : Claim) : Type 0 where
+  pub station : c .station < stations
+  pub range : c .range < length nodes
+  pub sort : term-at nodes (c .range) ≡ false
+
+abbrev pub Placed-rule : ℕ → List Node → Rule → Type 0
+Placed-rule n nodes (Plain c) = Placed n nodes c
+Placed-rule n nodes (Conditional c d) = Placed n nodes c × Placed n nodes d

@@ -1,0 +1,16 @@
+// What a sheet's nodes and rules say of given channels.
+mod known;
+mod ranges;
+mod rules;
+mod terms;
+mod values;
+
+pub use ranges::certain;
+pub use ranges::possible;
+pub use rules::left;
+pub use rules::verdict;
+pub use terms::ends;
+pub use values::Domains;
+pub use values::Ends;
+pub use values::Narrowed;
+pub use values::Verdict;

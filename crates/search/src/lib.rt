@@ -1,0 +1,56 @@
+// The search for plans: one channel for each station, so that every rule holds.
+ghost use Prim.Native.Nat.{_≤_};
+ghost use lib.Count.{ones, trailingZeros};
+ghost use lib.Dec.{eqb};
+ghost use mathlib.Core.Bool.{cond};
+ghost use mathlib.Core.Path.{_≡_};
+ghost use Rattle.search.specs.Plan.{Fixed, Picks};
+ghost use Rattle.std.specs.Of.Vec.{vec-len};
+ghost use Rattle.std.specs.Slices.{found};
+ghost use Rattle.std.specs.declared.option.Option.the-variants.{None, Some};
+use judging::Domains;
+use settling::settle;
+use sheet::Sheet;
+
+// The channel of a set that has one; nothing where it has none or several.
+pub fn channel_of(word: u64) -> Option<u32>
+    ensures { λ r. ⌜ r ≡ cond (eqb (ones word) 1) (Some (trailingZeros 64 word)) None ⌝ }
+{
+    if word.count_ones() == 1 {
+        Some(word.trailing_zeros())
+    } else {
+        None
+    }
+}
+
+// The first plan among settled channels, of which the stations below `station` have one each.
+// Each channel of the next station is tried, lowest first: the station is cut to it, and what is left is settled.
+fn plan_from(sheet: &Sheet, domains: Domains, station: usize) -> Option<Domains>
+    requires there { ⌜ station ≤ vec-len (now sheet .stations) ⌝ }
+    requires fixed { ⌜ Fixed station domains ⌝ }
+    ensures { λ r. ⌜ found r (Picks (vec-len (now (sheet .entry) .stations)) domains) ⌝ }
+{
+    if station == sheet.stations.len() {
+        return Some(domains);
+    }
+    for c in 0..64u32 {
+        if (domains[station] >> c) & 1 == 1 {
+            let mut cut = domains;
+            cut[station] = 1 << c;
+            if let Some(settled) = settle(sheet, cut) {
+                if let Some(plan) = plan_from(sheet, settled, station + 1) {
+                    return Some(plan);
+                }
+            }
+        }
+    }
+    None
+}
+
+// The first plan among settled channels, one channel for each station of the sheet; nothing where there is no plan.
+// Plans are ordered by station 0's channel, then station 1's and so on, lower first.
+pub fn first_plan(sheet: &Sheet, domains: Domains) -> Option<Domains>
+    ensures { λ r. ⌜ found r (Picks (vec-len (now (sheet .entry) .stations)) domains) ⌝ }
+{
+    plan_from(sheet, domains, 0)
+}
