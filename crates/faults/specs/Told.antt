@@ -16,13 +16,13 @@ use Rattle.faults.specs.declared.PlanFault.{PlanFault}
 use Rattle.faults.specs.declared.PlanFault.the-variants.{Sheet, TooShort}
 
 -- a number of a layer, at a place
-abbrev at : ℕ → Layer → Place → Told
-at n l p = record { number = n; layer = l; place = Some p }
+abbrev pub told-at : ℕ → Layer → Place → Told
+told-at n l p = record { number = n; layer = l; place = Some p }
 
 -- 1: a record is cut off; 2: its mark is unknown
 abbrev pub told-bytes : BytesFault → Told
-told-bytes (Cut p) = at 1 layer.Bytes p
-told-bytes (UnknownMark p) = at 2 layer.Bytes p
+told-bytes (Cut p) = told-at 1 layer.Bytes p
+told-bytes (UnknownMark p) = told-at 2 layer.Bytes p
 
 -- the number of what is wrong with a whole record
 abbrev pub number-of : Flaw → ℕ
@@ -38,8 +38,8 @@ number-of TooDeep = 10
 -- 11: no station by the end. Want of memory is no fault of the input, and has the number 0
 abbrev pub told-sheet : SheetFault → Told
 told-sheet (Bytes f) = told-bytes f
-told-sheet (Record f p) = at (number-of f) layer.Sheet p
-told-sheet (NoStation p) = at 11 layer.Sheet p
+told-sheet (Record f p) = told-at (number-of f) layer.Sheet p
+told-sheet (NoStation p) = told-at 11 layer.Sheet p
 told-sheet Memory = record { number = 0; layer = layer.Machine; place = None }
 
 -- 17: the caller's bytes are too short

@@ -1,11 +1,10 @@
 // What may be wrong with a sheet or a call: a fault type a layer, each carrying the layer below it whole.
 ghost use mathlib.Core.Path.{_≡_};
-ghost use Rattle.faults.specs.Told.{number-of, told-bytes, told-sheet, told-plan};
+ghost use Rattle.faults.specs.Told.{told-at, number-of, told-bytes, told-sheet, told-plan};
 ghost use Rattle.faults.specs.declared.SheetFault.the-variants.{Bytes, Memory};
 ghost use Rattle.faults.specs.declared.PlanFault.the-variants.{Sheet};
 use std::alloc::AllocError;
 use std::alloc::Refused;
-use std::fmt;
 
 // Where a fault stands: the record's number, counted through all sorts from 0, and its first byte.
 #[derive(Clone, Copy, Debug, PartialEq, Eq)]
@@ -99,18 +98,26 @@ pub impl From<SheetFault> for PlanFault as PlanFromSheet {
     }
 }
 
+impl Told {
+    // A fault of a layer, at a place.
+    fn at(number: u8, layer: Layer, place: Place) -> Told
+        ensures { λ r. ⌜ r ≡ told-at number layer place ⌝ }
+    {
+        Told {
+            number,
+            layer,
+            place: Some(place),
+        }
+    }
+}
+
 impl BytesFault {
     pub fn told(&self) -> Told
         ensures { λ r. ⌜ r ≡ told-bytes (now (self .entry)) ⌝ }
     {
-        let (number, place) = match *self {
-            BytesFault::Cut(place) => (1, place),
-            BytesFault::UnknownMark(place) => (2, place),
-        };
-        Told {
-            number,
-            layer: Layer::Bytes,
-            place: Some(place),
+        match *self {
+            BytesFault::Cut(place) => Told::at(1, Layer::Bytes, place),
+            BytesFault::UnknownMark(place) => Told::at(2, Layer::Bytes, place),
         }
     }
 }
@@ -137,17 +144,9 @@ impl SheetFault {
         ensures { λ r. ⌜ r ≡ told-sheet (now (self .entry)) ⌝ }
     {
         match *self {
-            SheetFault::Bytes(fault) => fault.told(),
-            SheetFault::Record(flaw, place) => Told {
-                number: flaw.number(),
-                layer: Layer::Sheet,
-                place: Some(place),
-            },
-            SheetFault::NoStation(place) => Told {
-                number: 11,
-                layer: Layer::Sheet,
-                place: Some(place),
-            },
+            SheetFault::Bytes(below) => below.told(),
+            SheetFault::Record(flaw, place) => Told::at(flaw.number(), Layer::Sheet, place),
+            SheetFault::NoStation(place) => Told::at(11, Layer::Sheet, place),
             SheetFault::Memory => Told {
                 number: 0,
                 layer: Layer::Machine,
@@ -162,7 +161,7 @@ impl PlanFault {
         ensures { λ r. ⌜ r ≡ told-plan (now (self .entry)) ⌝ }
     {
         match *self {
-            PlanFault::Sheet(fault) => fault.told(),
+            PlanFault::Sheet(below) => below.told(),
             PlanFault::TooShort => Told {
                 number: 17,
                 layer: Layer::Plan,

@@ -14,8 +14,9 @@ use Rattle.std.proofs.shelf.Tests.{and-parts, not-true, eqb-true, leb-true, ltb
 use Rattle.judging.specs.Bounds.{bound}
 use Rattle.judging.specs.Known.{Known, Names, Divisor, Placed, Placed-rule, depth-at, term-at}
 use Rattle.judging.proofs.Bounds.{bound-up, bound-step, bound-8, bound-1}
-use Rattle.sheet.specs.Kinds.{shape, fields, Fields}
-use Rattle.sheet.specs.Sound.{no-node, within, there, of-sort, is-term, depth-below, depth-of, sound-row, sound-node, Sound-nodes, sound-claim, sound-rule}
+use Rattle.sheet.specs.Kinds.{shape-of, fields-of, is-term}
+use Rattle.sheet.specs.Sound.{no-node, within, there, of-sort, depth-below, depth-of, sound-row, sound-node, Sound-nodes, sound-claim, sound-rule}
+use Rattle.sheet.specs.declared.form.Fields.{Fields}
 use Rattle.sheet.specs.declared.form.Node.{Node}
 use Rattle.sheet.specs.declared.form.Shape.{Shape}
 use Rattle.sheet.specs.declared.form.Slot.{Slot}
@@ -50,7 +51,7 @@ row-of n before d row f e =
 depths : (n : ℕ) (nodes : List Node) → Sound-nodes n nodes → (i : ℕ) → i < length nodes → (1 ≤ depth-at nodes i) × (depth-at nodes i ≤ 8)
 depths n nodes sound i h =
     let x : Form = getD nodes i no-node .form in
-    let r : Row n (take i nodes) (depth-at nodes i) (shape x) (fields x) = row-of n (take i nodes) _ _ _ (sound i h) in
+    let r : Row n (take i nodes) (depth-at nodes i) (shape-of x) (fields-of x) = row-of n (take i nodes) _ _ _ (sound i h) in
     (omega (arith, r .deep), r .shallow)
 
 -- a node that stands before node i and is less deep
@@ -93,7 +94,7 @@ module _ (n : ℕ) (nodes : List Node) (few : n ≤ 32) (sound : Sound-nodes n n
       → getD (take i nodes) v no-node .depth < depth-at nodes i → Names false nodes i v
   range v t s d = names n nodes sound i h v false t (not-true _ s) d
 
-  by-row : (x : Form) → Row n (take i nodes) (depth-at nodes i) (shape x) (fields x) → Known nodes i x
+  by-row : (x : Form) → Row n (take i nodes) (depth-at nodes i) (shape-of x) (fields-of x) → Known nodes i x
   by-row (Number k) r = (omega (arith, ints, limits-of (negsuc 999) (pos 1000) k (r .limits)), omega (arith, r .deep, bound-up 1 (depth-at nodes i) (omega (arith, r .deep)), bound-1))
   by-row (Station s) r = (omega (arith, ltb-true _ _ (r .a-there)), omega (arith, r .deep, bound-up 1 (depth-at nodes i) (omega (arith, r .deep)), bound-1))
   by-row (Sum a b) r = (term a (r .a-there) (r .a-sort) (omega (arith, r .deep)), term b (r .b-there) (r .b-sort) (omega (arith, r .deep)))

@@ -6,7 +6,8 @@ use mathlib.Core.Bool.{Bool, true, false}
 use mathlib.Core.List.{List}
 use mathlib.Core.Path.{_≡_}
 use Rattle.judging.specs.Bounds.{bound}
-use Rattle.sheet.specs.Sound.{no-node, is-term}
+use Rattle.sheet.specs.Kinds.{is-term}
+use Rattle.sheet.specs.Sound.{no-node}
 use Rattle.sheet.specs.declared.form.Node.{Node}
 use Rattle.sheet.specs.declared.form.Claim.{Claim}
 use Rattle.sheet.specs.declared.form.Rule.{Rule}

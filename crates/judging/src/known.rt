@@ -3,7 +3,7 @@ ghost use Prim.Native.Nat.{_<_};
 ghost use lib.ListN.{getD};
 ghost use mathlib.Core.Path.{_≡_};
 ghost use Rattle.judging.specs.Known.{Known, Placed-rule};
-ghost use Rattle.sheet.specs.Sound.{is-term, no-node, no-rule};
+ghost use Rattle.sheet.specs.Sound.{no-node, no-rule};
 ghost use Rattle.std.specs.Of.Vec.{vec-items, vec-len};
 use sheet::Form;
 use sheet::Rule;
@@ -25,15 +25,4 @@ pub(crate) fn rule_at(sheet: &Sheet, rule: usize) -> Rule
     ensures placed { λ r. ⌜ Placed-rule (vec-len (now (sheet .entry) .stations)) (vec-items (now (sheet .entry) .nodes)) r ⌝ }
 {
     sheet.rules[rule]
-}
-
-// Whether what a node says is a term. The other nodes are ranges.
-pub(crate) fn is_term(form: Form) -> bool
-    ensures { λ r. ⌜ r ≡ is-term form ⌝ }
-{
-    match form {
-        Form::Number(_) | Form::Station(_) | Form::Sum(_, _) | Form::Difference(_, _) => true,
-        Form::Multiple(_, _) | Form::Quotient(_, _) | Form::Remainder(_, _) => true,
-        _ => false,
-    }
 }

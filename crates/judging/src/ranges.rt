@@ -9,7 +9,6 @@ ghost use Rattle.judging.specs.Known.{depth-at, term-at};
 ghost use Rattle.std.specs.Options.{isSome};
 ghost use Rattle.std.specs.Of.Vec.{vec-items, vec-len};
 use crate::known::form_at;
-use crate::known::is_term;
 use crate::terms::ends_at;
 use crate::values::Domains;
 use crate::values::Ends;
@@ -107,7 +106,7 @@ pub fn possible(sheet: &Sheet, domains: &Domains, node: u8, v: i32) -> Option<bo
     ensures { λ r. ⌜ isSome r ≡ (ltb node (vec-len (now (sheet .entry) .nodes)) && not (term-at (vec-items (now (sheet .entry) .nodes)) node)) ⌝ }
 {
     let node = node as usize;
-    if node < sheet.nodes.len() && !is_term(form_at(sheet, node)) {
+    if node < sheet.nodes.len() && !form_at(sheet, node).is_term() {
         Some(possible_at(sheet, domains, node, i64::from(v)))
     } else {
         None
@@ -119,7 +118,7 @@ pub fn certain(sheet: &Sheet, domains: &Domains, node: u8, v: i32) -> Option<boo
     ensures { λ r. ⌜ isSome r ≡ (ltb node (vec-len (now (sheet .entry) .nodes)) && not (term-at (vec-items (now (sheet .entry) .nodes)) node)) ⌝ }
 {
     let node = node as usize;
-    if node < sheet.nodes.len() && !is_term(form_at(sheet, node)) {
+    if node < sheet.nodes.len() && !form_at(sheet, node).is_term() {
         Some(certain_at(sheet, domains, node, i64::from(v)))
     } else {
         None

@@ -12,7 +12,6 @@ ghost use Rattle.std.specs.Numbers.{divEuclid, remEuclid};
 ghost use Rattle.std.specs.Options.{isSome};
 ghost use Rattle.std.specs.Of.Vec.{vec-items, vec-len};
 use crate::known::form_at;
-use crate::known::is_term;
 use crate::values::Domains;
 use crate::values::Ends;
 use sheet::Form;
@@ -154,7 +153,7 @@ pub fn ends(sheet: &Sheet, domains: &Domains, node: u8) -> Option<Ends>
     ensures { λ r. ⌜ isSome r ≡ (ltb node (vec-len (now (sheet .entry) .nodes)) && term-at (vec-items (now (sheet .entry) .nodes)) node) ⌝ }
 {
     let node = node as usize;
-    if node < sheet.nodes.len() && is_term(form_at(sheet, node)) {
+    if node < sheet.nodes.len() && form_at(sheet, node).is_term() {
         Some(ends_at(sheet, domains, node))
     } else {
         None
