@@ -94,8 +94,8 @@ module _ (c : Content) (at : Place) (bytes : List ℕ) (x : Result Content Sheet
   one-more : (s : Still c at bytes x) → onto (suc (s .bound - 1)) c at bytes ≡ x
   one-more s = let n : suc (s .bound - 1) ≡ s .bound = omega (arith, s .enough) in rw n (s .same)
 
-  pub still-refused : (e : BytesFault) → Still c at bytes x → offered at (front bytes) ≡ Err e → x ≡ Err (Bytes e)
-  still-refused e s h = sym (one-more s) ∙ refused-at c at bytes more (s .bound - 1) (front bytes) e refl h
+  pub still-refused : (e : BytesFault) → Still c at bytes x → Err e ≡ offered at (front bytes) → x ≡ Err (Bytes e)
+  still-refused e s h = sym (one-more s) ∙ refused-at c at bytes more (s .bound - 1) (front bytes) e refl (sym h)
 
   still-flawed-at : (v : Sight) (q : Piece) (e : SheetFault) → front bytes ≡ v → Still c at bytes x → offered at v ≡ Ok q → added c (q .part .sort) (q .part .bytes) at ≡ Err e → x ≡ Err e
   still-flawed-at end q e f s h a = grind arith

@@ -27,14 +27,14 @@ refuses-by x y (NoStation at) f h = f (NoStation at) h
 
 module _
     (c : Content) (at : Place) (bytes : List ℕ) (x : Result Content SheetFault) (q : Piece)
-    (more : 0 < length bytes) (s : Still c at bytes x) (h : offered at (front bytes) ≡ Ok q) where
+    (more : 0 < length bytes) (s : Still c at bytes x) (h : Ok q ≡ offered at (front bytes)) where
   at-place : (r : Result Content SheetFault) → added c (q .part .sort) (q .part .bytes) (q .place) ≡ r → added c (q .part .sort) (q .part .bytes) at ≡ r
   at-place r e = subst (λ (p : Place). added c (q .part .sort) (q .part .bytes) p ≡ r) (offered-whole at bytes q h .here) e
 
   -- a record that is put in
   pub turn-added : (d : Content) → Valid c → added c (q .part .sort) (q .part .bytes) (q .place) ≡ Ok d → Still d (next-place at (front bytes)) (rest-of bytes (front bytes)) x × Valid d
   turn-added d v e = (
-    still-added c at bytes x more q d s h (at-place (Ok d) e),
+    still-added c at bytes x more q d s (sym h) (at-place (Ok d) e),
     added-valid c (q .part .sort) (q .part .bytes) (q .place) d v e,
   )
 
@@ -42,4 +42,4 @@ module _
   pub turn-refused : (e : SheetFault) → Refuses (added c (q .part .sort) (q .part .bytes) (q .place)) e → Refuses x e
   turn-refused e r =
       refuses-by x (added c (q .part .sort) (q .part .bytes) (q .place)) e
-      (λ g a. still-flawed c at bytes x more q g s h (at-place (Err g) a)) r
+      (λ g a. still-flawed c at bytes x more q g s (sym h) (at-place (Err g) a)) r

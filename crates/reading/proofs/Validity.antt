@@ -16,7 +16,7 @@ use Rattle.std.specs.declared.option.Option.the-variants.{Some, None}
 use Rattle.std.specs.declared.result.Result.{Result}
 use Rattle.std.specs.declared.result.Result.the-variants.{Ok, Err}
 use Rattle.faults.specs.declared.Flaw.{Flaw}
-use Rattle.faults.specs.declared.Flaw.the-variants.{OutOfOrder, TooMany, UnknownKind, NumberOutside, NotThere, WrongSort, TooDeep}
+use Rattle.faults.specs.declared.Flaw.the-variants.{OutOfOrder, TooMany, NoChannel, UnknownKind, NumberOutside, NotThere, WrongSort, TooDeep}
 use Rattle.faults.specs.declared.Place.{Place}
 use Rattle.records.specs.Records.{Sort, station, node, rule}
 use Rattle.sheet.specs.declared.form.Form.{Form}
@@ -30,8 +30,8 @@ use Rattle.sheet.specs.declared.form.Rule.{Rule}
 use Rattle.sheet.specs.declared.form.Rule.the-variants.{Plain, Conditional}
 use Rattle.sheet.specs.Content.{Content, Valid}
 use Rattle.sheet.specs.Kinds.{form-of, shape-of, fields-of}
-use Rattle.sheet.specs.Sound.{no-node, no-rule, there, of-sort, within, depth-of, sound-row, sound-node, sound-claim, sound-rule, Sound-nodes, Sound-rules}
-use Rattle.reading.specs.Records.{number-fits, node-fields, station-of, node-of-row, node-of-form, node-of-kind, node-of, rule-of-slots, rule-of-kind, rule-of, first-claim, second-claim}
+use Rattle.sheet.specs.Sound.{no-node, no-rule, there, of-sort, within, depth-of, sound-row, sound-node, sound-claim, sound-rule, Filled, Sound-nodes, Sound-rules}
+use Rattle.reading.specs.Records.{word, number-fits, node-fields, station-of, node-of-row, node-of-form, node-of-kind, node-of, rule-of-slots, rule-of-kind, rule-of, first-claim, second-claim}
 use Rattle.reading.specs.Reading.{nothing, with-station, with-node, with-rule, added, put}
 use Rattle.reading.proofs.Fields.{fields-same}
 
@@ -149,6 +149,22 @@ rules-more n nodes rules x h new i lt =
 pub guarded : {X : Type 0} (a b : Bool) (e₁ e₂ : Flaw) (r : Result X Flaw) (y : X) → cond a (Err e₁) (cond b (Err e₂) r) ≡ Ok y → (a ≡ false) × (b ≡ false) × (r ≡ Ok y)
 guarded a b e₁ e₂ r y h = grind arith
 
+-- one station more, with a channel
+granted-word : (part : List ℕ) (x : ℕ) → cond (eqb (word part) 0) (Err NoChannel) (Ok (word part)) ≡ Ok x → 0 < x
+granted-word part x e = by-word (word part) e
+  where
+    by-word : (w : ℕ) → cond (eqb w 0) (Err NoChannel) (Ok w) ≡ Ok x → 0 < x
+    by-word w h = grind (arith, tells)
+
+filled-more : (stations : List ℕ) (x : ℕ) → Filled stations → 0 < x → Filled (stations ++ x ∷ [])
+filled-more stations x h new i lt =
+    ⊎-elim
+    (λ below. rw (getD-append-left stations (x ∷ []) 0 i below) (h i below))
+    (λ past.
+    let e : length stations ≡ i = omega (arith, length-push stations x) in
+    rw (getD-push stations x 0 i e) new)
+    (cases-lt i (length stations))
+
 station-valid : (c : Content) (part : List ℕ) (x : ℕ) → Valid c → station-of c part ≡ Ok x → Valid (with-station c x)
 station-valid c part x v e =
     let g = guarded (ltb 0 (length (c .nodes)) || ltb 0 (length (c .rules))) (leb 32 (length (c .stations))) OutOfOrder TooMany _ x e in
@@ -157,6 +173,7 @@ station-valid c part x v e =
     let no-rules = ltb-false 0 (length (c .rules)) (none .1) in
     record {
       few-stations = omega (arith, length-push (c .stations) x, leb-false 32 (length (c .stations)) (g .1));
+      channels = filled-more (c .stations) x (v .channels) (granted-word part x (g .2));
       few-nodes = v .few-nodes;
       few-rules = v .few-rules;
       nodes-sound = λ i lt. absurd (omega arith);
@@ -169,6 +186,7 @@ node-valid c part x v e =
     let no-rules = ltb-false 0 (length (c .rules)) (g .0) in
     record {
       few-stations = v .few-stations;
+      channels = v .channels;
       few-nodes = omega (arith, length-push (c .nodes) x, leb-false 255 (length (c .nodes)) (g .1));
       few-rules = v .few-rules;
       nodes-sound =
@@ -182,6 +200,7 @@ rule-valid c part x v e =
     let g = guarded false (leb 255 (length (c .rules))) OutOfOrder TooMany _ x e in
     record {
       few-stations = v .few-stations;
+      channels = v .channels;
       few-nodes = v .few-nodes;
       few-rules = omega (arith, length-push (c .rules) x, leb-false 255 (length (c .rules)) (g .1));
       nodes-sound = v .nodes-sound;
@@ -210,6 +229,7 @@ pub nothing-valid : Valid nothing
 nothing-valid =
     record {
       few-stations = omega arith;
+      channels = λ i lt. absurd (omega arith);
       few-nodes = omega arith;
       few-rules = omega arith;
       nodes-sound = λ i lt. absurd (omega arith);

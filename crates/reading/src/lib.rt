@@ -1,5 +1,7 @@
 // Reading a sheet: bytes in, a sheet or the first fault out.
 ghost use mathlib.Core.Path.{_≡_};
+ghost use Rattle.std.specs.declared.result.Result.the-variants.{Err};
+ghost use Rattle.faults.specs.declared.SheetFault.the-variants.{Memory};
 ghost use Rattle.sheet.specs.Content.{Valid};
 ghost use Rattle.reading.specs.Drafts.{drafted};
 ghost use Rattle.reading.specs.Reading.{finished, reading as reading-of, Reads};
@@ -36,9 +38,10 @@ fn finish(draft: Draft, place: Place) -> Result<Sheet, SheetFault>
     })
 }
 
-// The sheet that some bytes say, or the first fault.
+// The sheet that some bytes say, or the first fault. Want of memory is no answer of the definition's.
 pub fn read(heap: Global, bytes: &[u8]) -> Result<Sheet, SheetFault>
-    ensures { λ r. ⌜ Reads (reading-of (now (bytes .entry))) r ⌝ }
+    ensures reads { λ r. ⌜ Reads (reading-of (now (bytes .entry))) r ⌝ }
+    ensures definite { λ _. ⌜ (reading-of (now (bytes .entry)) ≡ Err Memory → ⊥) ⌝ }
 {
     let mut reader = Reader::new(bytes);
     let mut draft = Draft::new(heap);

@@ -83,5 +83,5 @@ offered-at at bytes (whole p rest) q f e =
       less = omega (arith, length-front bytes p rest f, size-least (p .sort));
     }
 
-pub offered-whole : (at : Place) (bytes : List ℕ) (q : Piece) → offered at (front bytes) ≡ Ok q → Whole at bytes (front bytes) q
-offered-whole at bytes q e = offered-at at bytes (front bytes) q refl e
+pub offered-whole : (at : Place) (bytes : List ℕ) (q : Piece) → Ok q ≡ offered at (front bytes) → Whole at bytes (front bytes) q
+offered-whole at bytes q e = offered-at at bytes (front bytes) q refl (sym e)

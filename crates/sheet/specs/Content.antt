@@ -3,7 +3,7 @@ use Prim.Native.Nat.{ℕ, _≤_}
 use lib.ListN.{length}
 use mathlib.Core.List.{List}
 use Rattle.std.specs.Of.Vec.{vec-items}
-use Rattle.sheet.specs.Sound.{Sound-nodes, Sound-rules}
+use Rattle.sheet.specs.Sound.{Filled, Sound-nodes, Sound-rules}
 use Rattle.sheet.specs.declared.form.Node.{Node}
 use Rattle.sheet.specs.declared.form.Rule.{Rule}
 use Rattle.sheet.specs.declared.valid.Sheet.{Sheet}
@@ -16,9 +16,10 @@ pub record Content : Type 0 where
 abbrev pub content : Sheet → Content
 content s = record { stations = vec-items (s .stations); nodes = vec-items (s .nodes); rules = vec-items (s .rules) }
 
--- the limits are kept, and the nodes and rules name only what is there, of the right sort and not too deep
+-- the limits are kept, each station has a channel, and the nodes and rules name only what is there, of the right sort and not too deep
 pub record Valid (c : Content) : Type 0 where
   pub few-stations : length (c .stations) ≤ 32
+  pub channels : Filled (c .stations)
   pub few-nodes : length (c .nodes) ≤ 255
   pub few-rules : length (c .rules) ≤ 255
   pub nodes-sound : Sound-nodes (length (c .stations)) (c .nodes)

@@ -76,6 +76,10 @@ abbrev pub sound-rule : ℕ → List Node → Rule → Bool
 sound-rule n nodes (Plain c) = sound-claim n nodes c
 sound-rule n nodes (Conditional c d) = sound-claim n nodes c && sound-claim n nodes d
 
+-- each station has a channel
+abbrev pub Filled : List ℕ → Type 0
+Filled stations = (i : ℕ) → i < length stations → 0 < getD stations i 0
+
 -- each node may stand behind those before it
 abbrev pub Sound-nodes : ℕ → List Node → Type 0
 Sound-nodes n nodes = (i : ℕ) → i < length nodes → sound-node n (take i nodes) (getD nodes i no-node) ≡ true

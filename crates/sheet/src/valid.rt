@@ -1,11 +1,11 @@
 // The type of accepted sheets.
 ghost use Prim.Native.Nat.{_≤_};
 ghost use Rattle.std.specs.Of.Vec.{vec-items, vec-len};
-ghost use Rattle.sheet.specs.Sound.{Sound-nodes, Sound-rules};
+ghost use Rattle.sheet.specs.Sound.{Filled, Sound-nodes, Sound-rules};
 use crate::form::Node;
 use crate::form::Rule;
 
-// A sheet that keeps the limits, and whose nodes and rules name only what is there, of the right sort and not too deep.
+// A sheet that keeps the limits, whose stations have a channel each, and whose nodes and rules name only what is there, of the right sort and not too deep.
 #[derive(Drop)]
 pub struct Sheet {
     pub stations: Vec<u64>,
@@ -13,6 +13,7 @@ pub struct Sheet {
     pub rules: Vec<Rule>,
     ghost some_station: { 1 ≤ vec-len stations },
     ghost few_stations: { vec-len stations ≤ 32 },
+    ghost channels: { Filled (vec-items stations) },
     ghost few_nodes: { vec-len nodes ≤ 255 },
     ghost few_rules: { vec-len rules ≤ 255 },
     ghost nodes_sound: { Sound-nodes (vec-len stations) (vec-items nodes) },
