@@ -14,6 +14,7 @@ use Rattle.std.proofs.shelf.Tests.{and-parts, not-true, eqb-true, leb-true, ltb
 use Rattle.judging.specs.Bounds.{bound}
 use Rattle.judging.specs.Known.{Known, Names, Divisor, Placed, Placed-rule, depth-at, term-at}
 use Rattle.judging.proofs.Bounds.{bound-up, bound-step, bound-8, bound-1}
+use Rattle.sheet.proofs.Rows.{Row, row-of}
 use Rattle.sheet.specs.Kinds.{shape-of, fields-of, is-term}
 use Rattle.sheet.specs.Sound.{no-node, within, there, of-sort, depth-below, depth-of, sound-row, sound-node, Sound-nodes, sound-claim, sound-rule}
 use Rattle.sheet.specs.declared.form.Fields.{Fields}
@@ -26,26 +27,6 @@ use Rattle.sheet.specs.declared.form.Rule.{Rule}
 use Rattle.sheet.specs.declared.form.Rule.the-variants.{Plain, Conditional}
 use Rattle.sheet.specs.declared.form.Form.{Form}
 use Rattle.sheet.specs.declared.form.Form.the-variants.{Number, Station, Sum, Difference, Multiple, Quotient, Remainder, Between, AtLeast, AtMost, Channels, Union, Intersection, Complement, Shift}
-
--- the parts of the test of a node's row that judging rests on
-pub record Row (n : ℕ) (before : List Node) (d : ℕ) (row : Shape) (f : Fields) : Type 0 where
-  pub limits : within (row .least) (row .greatest) (f .k) ≡ true
-  pub a-there : there n before (row .a) (f .a) ≡ true
-  pub b-there : there n before (row .b) (f .b) ≡ true
-  pub a-sort : of-sort before (row .a) (f .a) ≡ true
-  pub b-sort : of-sort before (row .b) (f .b) ≡ true
-  pub deep : d ≡ depth-of before row (f .a) (f .b)
-  pub shallow : d ≤ 8
-
-row-of : (n : ℕ) (before : List Node) (d : ℕ) (row : Shape) (f : Fields) → sound-row n before d row f ≡ true → Row n before d row f
-row-of n before d row f e =
-    let p = and-parts _ _ e in
-    let q = and-parts _ _ (p .0) in
-    let r = and-parts _ _ (q .0) in
-    let t = and-parts _ _ (r .1) in
-    let s = and-parts _ _ (q .1) in
-    let u = and-parts _ _ (p .1) in
-    record { limits = r .0; a-there = t .0; b-there = t .1; a-sort = s .0; b-sort = s .1; deep = eqb-true _ _ (u .0); shallow = leb-true _ _ (u .1) }
 
 -- every node has a depth from 1 to 8
 depths : (n : ℕ) (nodes : List Node) → Sound-nodes n nodes → (i : ℕ) → i < length nodes → (1 ≤ depth-at nodes i) × (depth-at nodes i ≤ 8)

@@ -251,6 +251,6 @@ onto-written (suc n) c at bytes d le small e =
           ∙ rw (one, append-assoc, b .1)
     ]
 
-pub written-back : Written-back
+pub written-back : (c : Content) → Written-back c
 unfolding reading written
-written-back bytes c small e = onto-written (length bytes) nothing start bytes c (omega arith) small e
+written-back c bytes small e = onto-written (length bytes) nothing start bytes c (omega arith) small e

@@ -1,3 +1,4 @@
 pub mod Back
+pub mod Forth
 pub mod Puts
 pub mod Sizes

@@ -1,7 +1,6 @@
 -- The bytes by which a sheet is written.
-use Prim.Native.Nat.{ℕ, _/_, _%_, _<_}
-use lib.IntN.{ℤ}
-use lib.ListN.{length}
+use Prim.Native.Nat.{ℕ, _/_, _%_, _<_, _^_}
+use lib.ListN.{length, getD}
 use mir.Val.{ofZ}
 use mir.Syntax.{w16}
 use mathlib.Core.List.{List, [], _∷_, _++_}
@@ -43,6 +42,14 @@ written c = joined station-bytes (c .stations) ++ (joined node-bytes (c .nodes) 
 abbrev pub Bytes : List ℕ → Type 0
 Bytes bs = All (λ b. b < 256) bs
 
--- whatever bytes were read as a sheet, the sheet is written back as those bytes
-abbrev pub Written-back : Type 0
-Written-back = (bytes : List ℕ) (c : Content) → Bytes bytes → reading bytes ≡ Ok c → written c ≡ bytes
+-- a station's word is below 2 ^ 64
+abbrev pub Words : List ℕ → Type 0
+Words stations = (i : ℕ) → i < length stations → getD stations i 0 < 2 ^ 64
+
+-- whatever bytes were read as a sheet, the sheet is written as those bytes
+abbrev pub Written-back : Content → Type 0
+Written-back c = (bytes : List ℕ) → Bytes bytes → reading bytes ≡ Ok c → written c ≡ bytes
+
+-- and a sheet is read from the bytes as which it is written
+abbrev pub Read-back : Content → Type 0
+Read-back c = Words (c .stations) → reading (written c) ≡ Ok c

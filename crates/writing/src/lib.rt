@@ -1,13 +1,9 @@
 // Writing a sheet back into bytes.
-ghost use mathlib.Core.List.{List};
 ghost use mathlib.Core.Path.{_≡_};
-ghost use Prim.Native.Nat.{ℕ};
 ghost use lib.ListN.{length};
-ghost use Rattle.std.specs.declared.result.Result.the-variants.{Ok};
 ghost use Rattle.sheet.specs.Content.{content};
-ghost use Rattle.reading.specs.Reading.{reading};
 ghost use Rattle.writing.specs.Puts.{Writes};
-ghost use Rattle.writing.specs.Written.{written, Bytes};
+ghost use Rattle.writing.specs.Written.{written, Written-back, Read-back};
 
 mod entry;
 
@@ -26,9 +22,11 @@ pub fn size(sheet: &Sheet) -> usize
 }
 
 // Writes a sheet's bytes to the front of a buffer and says how many; a buffer that is too short stays as it was.
+// Whatever bytes the sheet was read from are these, and from these it is read again.
 pub fn write(sheet: &Sheet, out: &mut [u8]) -> Result<usize, PlanFault>
     ensures writes { λ r. ⌜ Writes (written (content (now (sheet .entry)))) (now (out .entry)) (now (out .exit)) r ⌝ }
-    ensures back { λ _. ⌜ ((bytes : List ℕ) → Bytes bytes → reading bytes ≡ Ok (content (now (sheet .entry))) → written (content (now (sheet .entry))) ≡ bytes) ⌝ }
+    ensures back { λ _. ⌜ Written-back (content (now (sheet .entry))) ⌝ }
+    ensures forth { λ _. ⌜ Read-back (content (now (sheet .entry))) ⌝ }
 {
     if out.len() < size(sheet) {
         return Err(PlanFault::TooShort);

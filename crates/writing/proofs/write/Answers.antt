@@ -6,10 +6,12 @@ use native.Mathlib.Omega.{arith}
 use Rattle.std.proofs.shelf.Lists.{length-append}
 use Rattle.std.specs.Of.Vec.{vec-items}
 use Rattle.std.specs.shelf.Lists.{joined}
+use Rattle.sheet.proofs.Types.{valid, some-station}
 use Rattle.sheet.specs.Content.{Content, content}
 use Rattle.writing.specs.Puts.{Put}
 use Rattle.writing.specs.Written.{station-bytes, node-bytes, rule-bytes, written}
 use Rattle.writing.proofs.Back.{written-back}
+use Rattle.writing.proofs.Forth.{read-back}
 use Rattle.writing.proofs.Puts.{put-three, put-front}
 use Rattle.writing.proofs.write.Needs as need
 
@@ -25,7 +27,7 @@ whole c =
 
 pub returns-then-out-size : need.returns-then-out-size
 returns-then-out-size c =
-    record { writes = (refl, omega arith, refl); back = λ bytes small e. written-back bytes (content (c .args .sheet .now)) small e }
+    record { writes = (refl, omega arith, refl); back = written-back (content (c .args .sheet .now)); forth = read-back (content (c .args .sheet .now)) (valid (c .args .sheet .now)) (some-station (c .args .sheet .now)) }
 
 pub put-all-nodes-at-requires : need.put-all-nodes-at-requires
 put-all-nodes-at-requires c κs =
@@ -61,5 +63,6 @@ returns c =
     (rw (c .as-slice-3 .ensures .value) at (c .put-all .ensures .put)) in
     record {
       writes = (n, rw n (put-front (written (content (c .args .sheet .now))) (c .args .out .now) (c .put-all .last .out) p));
-      back = λ bytes small e. written-back bytes (content (c .args .sheet .now)) small e;
+      back = written-back (content (c .args .sheet .now));
+      forth = read-back (content (c .args .sheet .now)) (valid (c .args .sheet .now)) (some-station (c .args .sheet .now));
     }
