@@ -15,7 +15,7 @@ use Rattle.faults.specs.declared.SheetFault.the-variants.{Bytes, Record, NoStat
 use Rattle.records.specs.Records.{Sort, station, node, rule, whole}
 use Rattle.records.specs.Handed.{start, next-place}
 use Rattle.sheet.specs.Content.{Content}
-use Rattle.reading.specs.Records.{station-of, node-of, rule-of}
+use Rattle.reading.specs.Decoding.{station-of, node-of, rule-of}
 use Rattle.reading.specs.Reading.{nothing, with-station, with-node, with-rule, put, added, finished, onto, reading}
 use Rattle.reading.proofs.Onto.{Step, ended, broken, flawed, further, step}
 

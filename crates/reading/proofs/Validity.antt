@@ -31,7 +31,7 @@ use Rattle.sheet.specs.declared.form.Rule.the-variants.{Plain, Conditional}
 use Rattle.sheet.specs.Content.{Content, Valid}
 use Rattle.sheet.specs.Kinds.{form-of, shape-of, fields-of}
 use Rattle.sheet.specs.Sound.{no-node, no-rule, there, of-sort, within, depth-of, sound-row, sound-node, sound-claim, sound-rule, Filled, Sound-nodes, Sound-rules}
-use Rattle.reading.specs.Records.{word, number-fits, node-fields, station-of, node-of-row, node-of-form, node-of-kind, node-of, rule-of-slots, rule-of-kind, rule-of, first-claim, second-claim}
+use Rattle.reading.specs.Decoding.{word, number-fits, node-fields, station-of, node-of-row, node-of-form, node-of-kind, node-of, rule-of-slots, rule-of-kind, rule-of, first-claim, second-claim}
 use Rattle.reading.specs.Reading.{nothing, with-station, with-node, with-rule, added, put}
 use Rattle.reading.proofs.Fields.{fields-same}
 

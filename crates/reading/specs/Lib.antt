@@ -1,3 +1,3 @@
 pub mod Drafts
 pub mod Reading
-pub mod Records
+pub mod Decoding

@@ -18,7 +18,7 @@ use Rattle.sheet.specs.declared.form.Node.{Node}
 use Rattle.sheet.specs.declared.form.Rule.{Rule}
 use Rattle.sheet.specs.declared.valid.Sheet.{Sheet}
 use Rattle.sheet.specs.Content.{Content, content}
-use Rattle.reading.specs.Records.{station-of, node-of, rule-of}
+use Rattle.reading.specs.Decoding.{station-of, node-of, rule-of}
 
 -- before the first record
 abbrev pub nothing : Content

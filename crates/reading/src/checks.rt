@@ -2,7 +2,7 @@
 ghost use mathlib.Core.Path.{_≡_};
 ghost use lib.ListN.{getD};
 ghost use Rattle.sheet.specs.Sound.{no-node, within, there, of-sort, depth-below, depth-of};
-ghost use Rattle.reading.specs.Records.{number-fits};
+ghost use Rattle.reading.specs.Decoding.{number-fits};
 use sheet::Fields;
 use sheet::Form;
 use sheet::Node;
@@ -17,14 +17,14 @@ fn is_within(least: i16, greatest: i16, k: i16) -> bool
 }
 
 // A number lies within -1000 to 1000, and within the limits of its kind.
-pub fn number_fits(row: Shape, k: i16) -> bool
+pub(crate) fn number_fits(row: Shape, k: i16) -> bool
     ensures { λ r. ⌜ r ≡ number-fits row k ⌝ }
 {
     is_within(-1000, 1000, k) && is_within(row.least, row.greatest, k)
 }
 
 // What a byte names is there; a byte that names nothing is 0.
-pub fn is_there(stations: usize, nodes: &[Node], slot: Slot, v: u8) -> bool
+pub(crate) fn is_there(stations: usize, nodes: &[Node], slot: Slot, v: u8) -> bool
     ensures { λ r. ⌜ r ≡ there stations (now (nodes .entry)) slot v ⌝ }
 {
     match slot {
@@ -35,7 +35,7 @@ pub fn is_there(stations: usize, nodes: &[Node], slot: Slot, v: u8) -> bool
 }
 
 // The node of a number; the number 0 stands in where there is none.
-pub fn node_at(nodes: &[Node], v: u8) -> Node
+pub(crate) fn node_at(nodes: &[Node], v: u8) -> Node
     ensures { λ r. ⌜ r ≡ getD (now (nodes .entry)) v no-node ⌝ }
 {
     match nodes.get(v as usize) {
@@ -48,7 +48,7 @@ pub fn node_at(nodes: &[Node], v: u8) -> Node
 }
 
 // What a byte names is of the sort wanted.
-pub fn is_of_sort(nodes: &[Node], slot: Slot, v: u8) -> bool
+pub(crate) fn is_of_sort(nodes: &[Node], slot: Slot, v: u8) -> bool
     ensures { λ r. ⌜ r ≡ of-sort (now (nodes .entry)) slot v ⌝ }
 {
     match slot {
@@ -59,7 +59,7 @@ pub fn is_of_sort(nodes: &[Node], slot: Slot, v: u8) -> bool
 }
 
 // How deep what a byte names goes.
-pub fn depth_below(nodes: &[Node], slot: Slot, v: u8) -> u8
+pub(crate) fn depth_below(nodes: &[Node], slot: Slot, v: u8) -> u8
     ensures { λ r. ⌜ r ≡ depth-below (now (nodes .entry)) slot v ⌝ }
 {
     match slot {
@@ -69,7 +69,7 @@ pub fn depth_below(nodes: &[Node], slot: Slot, v: u8) -> u8
 }
 
 // A node is one deeper than the deepest node it names.
-pub fn depth_of(nodes: &[Node], row: Shape, fields: Fields) -> u16
+pub(crate) fn depth_of(nodes: &[Node], row: Shape, fields: Fields) -> u16
     ensures { λ r. ⌜ r ≡ depth-of (now (nodes .entry)) row (fields .a) (fields .b) ⌝ }
 {
     let below = depth_below(nodes, row.a, fields.a).max(depth_below(nodes, row.b, fields.b));

@@ -2,7 +2,7 @@
 ghost use Prim.Native.Nat.{_≤_};
 ghost use mathlib.Core.Path.{_≡_};
 ghost use lib.ListN.{length};
-ghost use Rattle.reading.specs.Records.{word as word-of, node-fields, node-of-kind, node-of-row, rule-of-slots, rule-of-kind};
+ghost use Rattle.reading.specs.Decoding.{word as word-of, node-fields, node-of-kind, node-of-row, rule-of-slots, rule-of-kind};
 use crate::checks::depth_of;
 use crate::checks::is_of_sort;
 use crate::checks::is_there;
@@ -62,7 +62,7 @@ fn node_of_row(
 }
 
 // A node by its record, behind the nodes before it.
-pub fn node(stations: usize, nodes: &[Node], part: &[u8]) -> Result<Node, Flaw>
+pub(crate) fn node(stations: usize, nodes: &[Node], part: &[u8]) -> Result<Node, Flaw>
     requires { ⌜ length (now part) ≡ 7 ⌝ }
     ensures { λ r. ⌜ r ≡ node-of-kind stations (now (nodes .entry)) (now (part .entry)) ⌝ }
 {
@@ -98,7 +98,7 @@ fn rule_of_slots(
 }
 
 // A rule by its record, behind all nodes.
-pub fn rule(stations: usize, nodes: &[Node], part: &[u8]) -> Result<Rule, Flaw>
+pub(crate) fn rule(stations: usize, nodes: &[Node], part: &[u8]) -> Result<Rule, Flaw>
     requires { ⌜ length (now part) ≡ 7 ⌝ }
     ensures { λ r. ⌜ r ≡ rule-of-kind stations (now (nodes .entry)) (now (part .entry)) ⌝ }
 {
@@ -135,7 +135,7 @@ pub fn rule(stations: usize, nodes: &[Node], part: &[u8]) -> Result<Rule, Flaw>
 }
 
 // A station's set of channels.
-pub fn word(part: &[u8]) -> u64
+pub(crate) fn word(part: &[u8]) -> u64
     requires { ⌜ length (now part) ≡ 10 ⌝ }
     ensures { λ r. ⌜ r ≡ word-of (now (part .entry)) ⌝ }
 {

@@ -5,7 +5,7 @@ ghost use lib.ListN.{length};
 ghost use Rattle.records.specs.Records.{part as part-of, size, station, node, rule};
 ghost use Rattle.reading.specs.Drafts.{drafted, Adds};
 ghost use Rattle.reading.specs.Reading.{nothing, added};
-ghost use Rattle.reading.specs.Records.{station-of, node-of, rule-of};
+ghost use Rattle.reading.specs.Decoding.{station-of, node-of, rule-of};
 use crate::decode::node;
 use crate::decode::rule;
 use crate::decode::word;
@@ -20,14 +20,14 @@ use sheet::Rule;
 use std::alloc::Global;
 
 #[derive(Drop)]
-pub struct Draft {
+pub(crate) struct Draft {
     pub stations: Vec<u64>,
     pub nodes: Vec<Node>,
     pub rules: Vec<Rule>,
 }
 
 impl Draft {
-    pub fn new(heap: Global) -> Draft
+    pub(crate) fn new(heap: Global) -> Draft
         ensures { λ r. ⌜ drafted r ≡ nothing ⌝ }
     {
         Draft {
@@ -120,7 +120,7 @@ impl Draft {
     }
 
     // One record more, or what is wrong with it.
-    pub fn add(&mut self, placed: Placed<'_>) -> Result<(), SheetFault>
+    pub(crate) fn add(&mut self, placed: Placed<'_>) -> Result<(), SheetFault>
         requires { ⌜ length (part-of (placed .«record») .bytes) ≡ size (part-of (placed .«record») .sort) ⌝ }
         ensures { λ r. ⌜ Adds (added (drafted (now (self .entry))) (part-of (placed .entry .«record») .sort) (part-of (placed .entry .«record») .bytes) (placed .entry .place)) r (now (self .exit)) ⌝ }
     {

@@ -34,11 +34,12 @@ use Rattle.sheet.specs.declared.form.Rule.{Rule}
 use Rattle.sheet.specs.declared.form.Rule.the-variants.{Plain, Conditional}
 use Rattle.sheet.specs.Content.{Content}
 use Rattle.sheet.specs.Kinds.{form-of, shape-of, fields-of}
-use Rattle.reading.specs.Records.{byte, word, node-fields, first-claim, second-claim, station-of, node-of-form, node-of, rule-of-slots, rule-of-kind, rule-of}
+use Rattle.reading.specs.Decoding.{byte, word, node-fields, first-claim, second-claim, station-of, node-of-form, node-of, rule-of-slots, rule-of-kind, rule-of}
 use Rattle.reading.specs.Reading.{nothing, with-station, with-node, with-rule, added, finished, onto, reading}
 use Rattle.reading.proofs.Fields.{fields-same}
 use Rattle.reading.proofs.Onto.{Step, ended, broken, flawed, further, step}
 use Rattle.reading.proofs.Validity.{row-passed, slots-passed, guarded, put-granted}
+use Rattle.writing.proofs.Marks.{Marked, mark-bytes}
 use Rattle.writing.specs.Written.{station-bytes, fields-bytes, node-bytes, rule-bytes, written, Bytes, Written-back}
 use Rattle.writing.proofs.Puts.{joined-push}
 
@@ -142,23 +143,6 @@ form-back n before (Some form) f x s e =
     let p = row-passed n before form (shape-of form) f x e in
     ap (λ (y : Node). fields-of (y .form)) (p .same) ∙ fields-same n before f form s (p .all-there) (p .fits)
 
--- a record that bears its sort's mark
-record Marked (s : Sort) (x : List ℕ) : Type 0 where
-  sized : length x ≡ size s
-  small : Bytes x
-  mark : marked (byte x 0) (byte x 1) ≡ Some s
-
--- the two letters of a mark
-abbrev letters : Sort → ℕ × ℕ
-letters station = (83, 84)
-letters node = (78, 68)
-letters rule = (82, 85)
-
-mark-bytes : (a b : ℕ) (s : Sort) → marked a b ≡ Some s → (a ≡ letters s .0) × (b ≡ letters s .1)
-mark-bytes a b station e = grind (arith, tells)
-mark-bytes a b node e = grind (arith, tells)
-mark-bytes a b rule e = grind (arith, tells)
-
 none : {X : Type 0} (xs : List X) → ltb 0 (length xs) ≡ false → xs ≡ []
 none xs e = nil-from-length xs (omega (arith, ltb-false 0 (length xs) e))
 
@@ -187,28 +171,28 @@ rule-more c y x back =
     (last-more rule-bytes (c .rules) y x back (joined station-bytes (c .stations) ++ nodes))
 
 -- one record more is its bytes more
-added-written : (c : Content) (s : Sort) (x : List ℕ) (at : Place) (d : Content) → Marked s x → added c s x at ≡ Ok d → written d ≡ written c ++ x
-added-written c station x at d m e =
+added-written : (c : Content) (s : Sort) (x : List ℕ) (at : Place) (d : Content) → Marked s x → Bytes x → added c s x at ≡ Ok d → written d ≡ written c ++ x
+added-written c station x at d m small e =
     let g = put-granted (with-station c) at (station-of c x) d e in
     let h = guarded (ltb 0 (length (c .nodes)) || ltb 0 (length (c .rules))) (leb 32 (length (c .stations))) OutOfOrder TooMany _ (g .0) (g .1) in
     let empty = or-parts (ltb 0 (length (c .nodes))) (ltb 0 (length (c .rules))) (h .0) in
     let k = mark-bytes (byte x 0) (byte x 1) station (m .mark) in
-    let back = ap station-bytes (sym (granted (eqb (word x) 0) NoChannel (word x) (g .0) (h .2))) ∙ station-back x (m .sized) (m .small) (k .0) (k .1) in
+    let back = ap station-bytes (sym (granted (eqb (word x) 0) NoChannel (word x) (g .0) (h .2))) ∙ station-back x (m .sized) small (k .0) (k .1) in
     ap written (g .2) ∙ station-more c (g .0) x (none (c .nodes) (empty .0)) (none (c .rules) (empty .1)) back
-added-written c node x at d m e =
+added-written c node x at d m small e =
     let g = put-granted (with-node c) at (node-of c x) d e in
     let h = guarded (ltb 0 (length (c .rules))) (leb 255 (length (c .nodes))) OutOfOrder TooMany _ (g .0) (g .1) in
     let k = mark-bytes (byte x 0) (byte x 1) node (m .mark) in
-    let back = ap fields-bytes (form-back (length (c .stations)) (c .nodes) (form-of (node-fields x)) (node-fields x) (g .0) refl (h .2)) ∙ node-back x (m .sized) (m .small) (k .0) (k .1) in
+    let back = ap fields-bytes (form-back (length (c .stations)) (c .nodes) (form-of (node-fields x)) (node-fields x) (g .0) refl (h .2)) ∙ node-back x (m .sized) small (k .0) (k .1) in
     ap written (g .2) ∙ node-more c (g .0) x (none (c .rules) (h .0)) back
-added-written c rule x at d m e =
+added-written c rule x at d m small e =
     let g = put-granted (with-rule c) at (rule-of c x) d e in
     let h = guarded false (leb 255 (length (c .rules))) OutOfOrder TooMany _ (g .0) (g .1) in
     let k = mark-bytes (byte x 0) (byte x 1) rule (m .mark) in
     ap written (g .2) ∙ rule-more c (g .0) x (rule-back (length (c .stations)) (c .nodes) x (g .0) (m .sized) (k .0) (k .1) (h .2))
 
 -- the record at the front bears its mark, and what is behind it are bytes too
-front-bears : (bytes : List ℕ) (p : Part) (rest : List ℕ) → Bytes bytes → front bytes ≡ whole p rest → Marked (p .sort) (p .bytes) × (p .bytes ++ rest ≡ bytes) × Bytes rest
+front-bears : (bytes : List ℕ) (p : Part) (rest : List ℕ) → Bytes bytes → front bytes ≡ whole p rest → Marked (p .sort) (p .bytes) × Bytes (p .bytes) × (p .bytes ++ rest ≡ bytes) × Bytes rest
 front-bears bytes p rest small e =
     let t = front-taken bytes p rest e in
     let n = size (p .sort) in
@@ -217,9 +201,9 @@ front-bears bytes p rest small e =
     let second : getD (take n bytes) 1 0 ≡ getD bytes 1 0 = getD-take n bytes 1 0 (omega arith) in (
       record {
         sized = ap length (t .first) ∙ length-take-le n bytes (t .fits);
-        small = subst Bytes (sym (t .first)) (all-take (λ b. b < 256) n bytes small);
         mark = rw (t .first, first, second) (front-marked bytes p rest e);
       },
+      subst Bytes (sym (t .first)) (all-take (λ b. b < 256) n bytes small),
       rw (t .first, t .behind) (take-append-drop n bytes),
       subst Bytes (sym (t .behind)) (all-drop (λ b. b < 256) n bytes small),
     )
@@ -245,10 +229,10 @@ onto-written (suc n) c at bytes d le small e =
       | flawed p rest g f a h ↦ grind arith
       | further p rest c′ f a h ↦
           let b = front-bears bytes p rest small f in
-          let one = added-written c (p .sort) (p .bytes) at c′ (b .0) a in
+          let one = added-written c (p .sort) (p .bytes) at c′ (b .0) (b .1) a in
           let fewer : length rest ≤ n = omega (arith, length-front bytes p rest f, size-least (p .sort)) in
-          onto-written n c′ (next-place at (whole p rest)) rest d fewer (b .2) h
-          ∙ rw (one, append-assoc, b .1)
+          onto-written n c′ (next-place at (whole p rest)) rest d fewer (b .3) h
+          ∙ rw (one, append-assoc, b .2)
     ]
 
 pub written-back : (c : Content) → Written-back c

@@ -39,15 +39,11 @@ use Rattle.sheet.specs.Content.{Content, Valid}
 use Rattle.sheet.proofs.Rows.{Row, row-of}
 use Rattle.sheet.specs.Kinds.{form-of, shape-of, fields-of}
 use Rattle.sheet.specs.Sound.{within, there, of-sort, depth-of, sound-row, sound-node, sound-claim, sound-rule, no-node, no-rule}
-use Rattle.reading.specs.Records.{byte, word, node-fields, number-fits, station-of, node-of-row, node-of-form, node-of-kind, node-of, rule-of-slots, rule-of-kind, rule-of}
+use Rattle.reading.specs.Decoding.{byte, word, node-fields, number-fits, station-of, node-of-row, node-of-form, node-of-kind, node-of, rule-of-slots, rule-of-kind, rule-of}
 use Rattle.reading.specs.Reading.{nothing, with-station, with-node, with-rule, put, added, finished, onto, reading}
 use Rattle.reading.proofs.Onto.{Still, still-starts, still-ends, still-added}
+use Rattle.writing.proofs.Marks.{Marked}
 use Rattle.writing.specs.Written.{station-bytes, fields-bytes, node-bytes, rule-bytes, written, Words}
-
--- a record of its sort's size that bears its mark
-record Marked (s : Sort) (x : List ℕ) : Type 0 where
-  sized : length x ≡ size s
-  mark : marked (byte x 0) (byte x 1) ≡ Some s
 
 -- such a record stands at the front of bytes that begin with it
 front-whole : (s : Sort) (x tail : List ℕ) → Marked s x → front (x ++ tail) ≡ whole (record { sort = s; bytes = x }) tail

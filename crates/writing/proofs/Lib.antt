@@ -1,4 +1,5 @@
 pub mod Back
 pub mod Forth
+pub mod Marks
 pub mod Puts
 pub mod Sizes

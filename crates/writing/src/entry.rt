@@ -22,7 +22,7 @@ fn copy(out: &mut [u8], at: usize, part: &[u8]) -> usize
 }
 
 // What has a record of its own.
-pub trait Entry {
+pub(crate) trait Entry {
     // the bytes of the record
     ghost bytes: { Self → List ℕ };
 
@@ -32,7 +32,7 @@ pub trait Entry {
         ensures end { λ r. ⌜ r ≡ at + length (bytes (now (self .entry))) ⌝ };
 }
 
-pub impl Entry for u64 as StationEntry {
+pub(crate) impl Entry for u64 as StationEntry {
     ghost bytes = { station-bytes };
 
     fn put(&self, out: &mut [u8], at: usize) -> usize {
@@ -41,7 +41,7 @@ pub impl Entry for u64 as StationEntry {
     }
 }
 
-pub impl Entry for Node as NodeEntry {
+pub(crate) impl Entry for Node as NodeEntry {
     ghost bytes = { node-bytes };
 
     fn put(&self, out: &mut [u8], at: usize) -> usize {
@@ -51,7 +51,7 @@ pub impl Entry for Node as NodeEntry {
     }
 }
 
-pub impl Entry for Rule as RuleEntry {
+pub(crate) impl Entry for Rule as RuleEntry {
     ghost bytes = { rule-bytes };
 
     fn put(&self, out: &mut [u8], at: usize) -> usize {
@@ -67,7 +67,7 @@ pub impl Entry for Rule as RuleEntry {
 }
 
 // Puts all items one behind another, from a place on, and says where they end.
-pub fn put_all<T: Entry>(items: &[T], out: &mut [u8], at: usize) -> usize
+pub(crate) fn put_all<T: Entry>(items: &[T], out: &mut [u8], at: usize) -> usize
     requires { ⌜ at + length (joined bytes (now items)) ≤ length (now out) ⌝ }
     ensures put { λ _. ⌜ Put at (joined bytes (now (items .entry))) (now (out .entry)) (now (out .exit)) ⌝ }
     ensures end { λ r. ⌜ r ≡ at + length (joined bytes (now (items .entry))) ⌝ }
