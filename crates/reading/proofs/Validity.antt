@@ -90,15 +90,18 @@ form-sound n before (Some form) f x s e =
     (subst (λ (g : Fields). sound-row n before (depth-of before (shape-of form) (f .a) (f .b)) (shape-of form) g ≡ true) (sym same)
     (row-sound n before form (shape-of form) f x p))
 
--- one node more
-nodes-more : (n : ℕ) (nodes : List Node) (x : Node) → Sound-nodes n nodes → sound-node n nodes x ≡ true → Sound-nodes n (nodes ++ x ∷ [])
-nodes-more n nodes x h new i lt =
-    ⊎-elim
-    (λ below. rw (take-append-le i nodes (x ∷ []) (omega arith), getD-append-left nodes (x ∷ []) no-node i below) (h i below))
-    (λ past.
-    let e : length nodes ≡ i = omega (arith, length-push nodes x) in
-    rw (take-at nodes (x ∷ []) i e, getD-push nodes x no-node i e) new)
-    (cases-lt i (length nodes))
+-- what holds of each item and those before it holds with one item more
+module _ {X : Type 0} (d : X) (P : List X → X → Type 0) (xs : List X) (x : X) where
+  each-more :
+      ((i : ℕ) → i < length xs → P (take i xs) (getD xs i d)) → P xs x
+      → (i : ℕ) → i < length (xs ++ x ∷ []) → P (take i (xs ++ x ∷ [])) (getD (xs ++ x ∷ []) i d)
+  each-more h new i lt =
+      ⊎-elim
+      (λ below. rw (take-append-le i xs (x ∷ []) (omega arith), getD-append-left xs (x ∷ []) d i below) (h i below))
+      (λ past.
+      let e : length xs ≡ i = omega (arith, length-push xs x) in
+      rw (take-at xs (x ∷ []) i e, getD-push xs x d i e) new)
+      (cases-lt i (length xs))
 
 -- what it says that a rule passes the checks of its slots
 pub slots-passed :
@@ -135,35 +138,15 @@ kind-sound n nodes false true part y e =
     (and-from (sound-claim n nodes (first-claim part)) (sound-claim n nodes (second-claim part)) (p .0) (and-from _ _ (p .1) (p .2)))
 kind-sound n nodes false false part y e = grind arith
 
--- one rule more
-rules-more : (n : ℕ) (nodes : List Node) (rules : List Rule) (x : Rule) → Sound-rules n nodes rules → sound-rule n nodes x ≡ true → Sound-rules n nodes (rules ++ x ∷ [])
-rules-more n nodes rules x h new i lt =
-    ⊎-elim
-    (λ below. rw (getD-append-left rules (x ∷ []) no-rule i below) (h i below))
-    (λ past.
-    let e : length rules ≡ i = omega (arith, length-push rules x) in
-    rw (getD-push rules x no-rule i e) new)
-    (cases-lt i (length rules))
-
 -- two tests before a record's own
 pub guarded : {X : Type 0} (a b : Bool) (e₁ e₂ : Flaw) (r : Result X Flaw) (y : X) → cond a (Err e₁) (cond b (Err e₂) r) ≡ Ok y → (a ≡ false) × (b ≡ false) × (r ≡ Ok y)
 guarded a b e₁ e₂ r y h = grind arith
 
--- one station more, with a channel
 granted-word : (part : List ℕ) (x : ℕ) → cond (eqb (word part) 0) (Err NoChannel) (Ok (word part)) ≡ Ok x → 0 < x
 granted-word part x e = by-word (word part) e
   where
     by-word : (w : ℕ) → cond (eqb w 0) (Err NoChannel) (Ok w) ≡ Ok x → 0 < x
     by-word w h = grind (arith, tells)
-
-filled-more : (stations : List ℕ) (x : ℕ) → Filled stations → 0 < x → Filled (stations ++ x ∷ [])
-filled-more stations x h new i lt =
-    ⊎-elim
-    (λ below. rw (getD-append-left stations (x ∷ []) 0 i below) (h i below))
-    (λ past.
-    let e : length stations ≡ i = omega (arith, length-push stations x) in
-    rw (getD-push stations x 0 i e) new)
-    (cases-lt i (length stations))
 
 station-valid : (c : Content) (part : List ℕ) (x : ℕ) → Valid c → station-of c part ≡ Ok x → Valid (with-station c x)
 station-valid c part x v e =
@@ -173,7 +156,7 @@ station-valid c part x v e =
     let no-rules = ltb-false 0 (length (c .rules)) (none .1) in
     record {
       few-stations = omega (arith, length-push (c .stations) x, leb-false 32 (length (c .stations)) (g .1));
-      channels = filled-more (c .stations) x (v .channels) (granted-word part x (g .2));
+      channels = each-more 0 (λ _ w. 0 < w) (c .stations) x (v .channels) (granted-word part x (g .2));
       few-nodes = v .few-nodes;
       few-rules = v .few-rules;
       nodes-sound = λ i lt. absurd (omega arith);
@@ -190,7 +173,7 @@ node-valid c part x v e =
       few-nodes = omega (arith, length-push (c .nodes) x, leb-false 255 (length (c .nodes)) (g .1));
       few-rules = v .few-rules;
       nodes-sound =
-          nodes-more (length (c .stations)) (c .nodes) x (v .nodes-sound)
+          each-more no-node (λ before y. sound-node (length (c .stations)) before y ≡ true) (c .nodes) x (v .nodes-sound)
           (form-sound (length (c .stations)) (c .nodes) (form-of (node-fields part)) (node-fields part) x refl (g .2));
       rules-sound = λ i lt. absurd (omega arith);
     }
@@ -205,7 +188,7 @@ rule-valid c part x v e =
       few-rules = omega (arith, length-push (c .rules) x, leb-false 255 (length (c .rules)) (g .1));
       nodes-sound = v .nodes-sound;
       rules-sound =
-          rules-more (length (c .stations)) (c .nodes) (c .rules) x (v .rules-sound)
+          each-more no-rule (λ _ y. sound-rule (length (c .stations)) (c .nodes) y ≡ true) (c .rules) x (v .rules-sound)
           (kind-sound (length (c .stations)) (c .nodes) (eqb (getD part 2 0) 0) (eqb (getD part 2 0) 1) part x (g .2));
     }
 

@@ -2,8 +2,9 @@
 ghost use Prim.Native.Nat.{_≤_};
 ghost use mathlib.Core.Path.{_≡_};
 ghost use lib.ListN.{length};
+ghost use Rattle.std.specs.Of.Vec.{vec-items};
 ghost use Rattle.records.specs.Records.{part as part-of, size, station, node, rule};
-ghost use Rattle.reading.specs.Drafts.{drafted, Adds};
+ghost use Rattle.reading.specs.Drafts.{drafted, Adds, Puts};
 ghost use Rattle.reading.specs.Reading.{nothing, added};
 ghost use Rattle.reading.specs.Decoding.{station-of, node-of, rule-of};
 use crate::decode::node;
@@ -24,6 +25,19 @@ pub(crate) struct Draft {
     pub stations: Vec<u64>,
     pub nodes: Vec<Node>,
     pub rules: Vec<Rule>,
+}
+
+// What a record says is put in, or what is wrong with it is told at its place.
+fn put<T: Drop>(items: &mut Vec<T>, found: Result<T, Flaw>, place: Place) -> Result<(), SheetFault>
+    ensures { λ r. ⌜ Puts found place (vec-items (now (items .entry))) (vec-items (now (items .exit))) r ⌝ }
+{
+    match found {
+        Ok(item) => {
+            items.push(item)?;
+            Ok(())
+        }
+        Err(flaw) => Err(SheetFault::Record(flaw, place)),
+    }
 }
 
 impl Draft {
@@ -80,54 +94,25 @@ impl Draft {
         rule(self.stations.len(), self.nodes.as_slice(), part)
     }
 
-    fn add_station(&mut self, part: &[u8], place: Place) -> Result<(), SheetFault>
-        requires { ⌜ length (now part) ≡ 10 ⌝ }
-        ensures { λ r. ⌜ Adds (added (drafted (now (self .entry))) station (now (part .entry)) place) r (now (self .exit)) ⌝ }
-    {
-        match self.station(part) {
-            Ok(channels) => {
-                self.stations.push(channels)?;
-                Ok(())
-            }
-            Err(flaw) => Err(SheetFault::Record(flaw, place)),
-        }
-    }
-
-    fn add_node(&mut self, part: &[u8], place: Place) -> Result<(), SheetFault>
-        requires { ⌜ length (now part) ≡ 7 ⌝ }
-        ensures { λ r. ⌜ Adds (added (drafted (now (self .entry))) node (now (part .entry)) place) r (now (self .exit)) ⌝ }
-    {
-        match self.node(part) {
-            Ok(found) => {
-                self.nodes.push(found)?;
-                Ok(())
-            }
-            Err(flaw) => Err(SheetFault::Record(flaw, place)),
-        }
-    }
-
-    fn add_rule(&mut self, part: &[u8], place: Place) -> Result<(), SheetFault>
-        requires { ⌜ length (now part) ≡ 7 ⌝ }
-        ensures { λ r. ⌜ Adds (added (drafted (now (self .entry))) rule (now (part .entry)) place) r (now (self .exit)) ⌝ }
-    {
-        match self.rule(part) {
-            Ok(found) => {
-                self.rules.push(found)?;
-                Ok(())
-            }
-            Err(flaw) => Err(SheetFault::Record(flaw, place)),
-        }
-    }
-
     // One record more, or what is wrong with it.
     pub(crate) fn add(&mut self, placed: Placed<'_>) -> Result<(), SheetFault>
         requires { ⌜ length (part-of (placed .«record») .bytes) ≡ size (part-of (placed .«record») .sort) ⌝ }
         ensures { λ r. ⌜ Adds (added (drafted (now (self .entry))) (part-of (placed .entry .«record») .sort) (part-of (placed .entry .«record») .bytes) (placed .entry .place)) r (now (self .exit)) ⌝ }
     {
+        let place = placed.place;
         match placed.record {
-            Record::Station(part) => self.add_station(part, placed.place),
-            Record::Node(part) => self.add_node(part, placed.place),
-            Record::Rule(part) => self.add_rule(part, placed.place),
+            Record::Station(part) => {
+                let found = self.station(part);
+                put(&mut self.stations, found, place)
+            }
+            Record::Node(part) => {
+                let found = self.node(part);
+                put(&mut self.nodes, found, place)
+            }
+            Record::Rule(part) => {
+                let found = self.rule(part);
+                put(&mut self.rules, found, place)
+            }
         }
     }
 }

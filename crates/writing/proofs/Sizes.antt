@@ -22,13 +22,21 @@ rule-size : (x : Rule) → length (rule-bytes x) ≡ 7
 rule-size (Plain c) = refl
 rule-size (Conditional c d) = refl
 
-pub written-size : (c : Content) → length (written c) ≡ 10 * length (c .stations) + 7 * length (c .nodes) + 7 * length (c .rules)
+-- the bytes of the whole are those of the three sorts
+pub written-length : (c : Content) → length (written c) ≡ length (joined station-bytes (c .stations)) + (length (joined node-bytes (c .nodes)) + length (joined rule-bytes (c .rules)))
 unfolding written
-written-size c =
+written-length c =
     omega (
       arith,
       length-append (joined station-bytes (c .stations)) (joined node-bytes (c .nodes) ++ joined rule-bytes (c .rules)),
       length-append (joined node-bytes (c .nodes)) (joined rule-bytes (c .rules)),
+    )
+
+pub written-size : (c : Content) → length (written c) ≡ 10 * length (c .stations) + 7 * length (c .nodes) + 7 * length (c .rules)
+written-size c =
+    omega (
+      arith,
+      written-length c,
       length-joined station-bytes 10 (λ x. refl) (c .stations),
       length-joined node-bytes 7 (λ x. refl) (c .nodes),
       length-joined rule-bytes 7 rule-size (c .rules),

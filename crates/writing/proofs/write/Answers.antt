@@ -1,29 +1,17 @@
-use Prim.Native.Nat.{_+_}
 use lib.ListN.{length}
-use mathlib.Core.List.{_++_}
 use mathlib.Core.Path.{_≡_, refl, ap, _∙_}
 use native.Mathlib.Omega.{arith}
-use Rattle.std.proofs.shelf.Lists.{length-append}
 use Rattle.std.specs.Of.Vec.{vec-items}
 use Rattle.std.specs.shelf.Lists.{joined}
 use Rattle.sheet.proofs.Types.{valid, some-station}
-use Rattle.sheet.specs.Content.{Content, content}
+use Rattle.sheet.specs.Content.{content}
 use Rattle.writing.specs.Puts.{Put}
 use Rattle.writing.specs.Written.{station-bytes, node-bytes, rule-bytes, written}
 use Rattle.writing.proofs.Back.{written-back}
 use Rattle.writing.proofs.Forth.{read-back}
 use Rattle.writing.proofs.Puts.{put-three, put-front}
+use Rattle.writing.proofs.Sizes.{written-length}
 use Rattle.writing.proofs.write.Needs as need
-
--- the length of the whole is that of the three runs
-whole : (c : Content) → length (written c) ≡ length (joined station-bytes (c .stations)) + (length (joined node-bytes (c .nodes)) + length (joined rule-bytes (c .rules)))
-unfolding written
-whole c =
-    omega (
-      arith,
-      length-append (joined station-bytes (c .stations)) (joined node-bytes (c .nodes) ++ joined rule-bytes (c .rules)),
-      length-append (joined node-bytes (c .nodes)) (joined rule-bytes (c .rules)),
-    )
 
 pub returns-then-out-size : need.returns-then-out-size
 returns-then-out-size c =
@@ -31,18 +19,18 @@ returns-then-out-size c =
 
 pub put-all-nodes-at-requires : need.put-all-nodes-at-requires
 put-all-nodes-at-requires c κs =
-    rw (c .as-slice .ensures .value) (omega (arith, whole (content (c .args .sheet .now)), c .size .ensures))
+    rw (c .as-slice .ensures .value) (omega (arith, written-length (content (c .args .sheet .now)), c .size .ensures))
 
 pub put-all-rules-at-requires : need.put-all-rules-at-requires
 put-all-rules-at-requires c κs =
     let first = rw (c .as-slice .ensures .value) at (c .put-all-nodes-at .ensures .end) in
-    rw (c .as-slice-2 .ensures .value) (omega (arith, whole (content (c .args .sheet .now)), c .size .ensures, first))
+    rw (c .as-slice-2 .ensures .value) (omega (arith, written-length (content (c .args .sheet .now)), c .size .ensures, first))
 
 pub put-all-requires : need.put-all-requires
 put-all-requires c κs =
     let first = rw (c .as-slice .ensures .value) at (c .put-all-nodes-at .ensures .end) in
     let second = rw (c .as-slice-2 .ensures .value) at (c .put-all-rules-at .ensures .end) in
-    rw (c .as-slice-3 .ensures .value) (omega (arith, whole (content (c .args .sheet .now)), c .size .ensures, first, second))
+    rw (c .as-slice-3 .ensures .value) (omega (arith, written-length (content (c .args .sheet .now)), c .size .ensures, first, second))
 
 pub returns : need.returns
 unfolding written
@@ -50,7 +38,7 @@ returns c =
     let first = rw (c .as-slice .ensures .value) at (c .put-all-nodes-at .ensures .end) in
     let second = rw (c .as-slice-2 .ensures .value) at (c .put-all-rules-at .ensures .end) in
     let third = rw (c .as-slice-3 .ensures .value) at (c .put-all .ensures .end) in
-    let n : c .put-all .result ≡ length (written (content (c .args .sheet .now))) = omega (arith, whole (content (c .args .sheet .now)), first, second, third) in
+    let n : c .put-all .result ≡ length (written (content (c .args .sheet .now))) = omega (arith, written-length (content (c .args .sheet .now)), first, second, third) in
     let p : Put 0 (written (content (c .args .sheet .now))) (c .args .out .now) (c .put-all .last .out) =
     put-three
     (joined station-bytes (vec-items (c .args .sheet .now .stations)))
