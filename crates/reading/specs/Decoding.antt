@@ -23,6 +23,7 @@ use Rattle.sheet.specs.declared.form.Claim.{Claim}
 use Rattle.sheet.specs.declared.form.Rule.{Rule}
 use Rattle.sheet.specs.declared.form.Rule.the-variants.{Plain, Conditional}
 use Rattle.sheet.specs.Content.{Content}
+use Rattle.sheet.specs.Limits.{most-stations, most-nodes, most-rules, deepest}
 use Rattle.sheet.specs.Kinds.{form-of, shape-of}
 use Rattle.sheet.specs.Sound.{within, there, of-sort, depth-of}
 
@@ -40,11 +41,11 @@ word part =
 abbrev pub node-fields : List ℕ → Fields
 node-fields part = record { kind = byte part 2; a = byte part 3; b = byte part 4; k = toZ w16 (byte part 5 * 256 + byte part 6) }
 
--- stations come before nodes and rules; there are 32 at the most, each with a channel
+-- stations come before nodes and rules, each with a channel
 abbrev pub station-of : Content → List ℕ → Result ℕ Flaw
 station-of c part =
     cond (ltb 0 (length (c .nodes)) || ltb 0 (length (c .rules))) (Err OutOfOrder)
-    (cond (leb 32 (length (c .stations))) (Err TooMany)
+    (cond (leb most-stations (length (c .stations))) (Err TooMany)
     (cond (eqb (word part) 0) (Err NoChannel) (Ok (word part))))
 
 -- a number is held against -1000 to 1000 first, and then against the limits of its kind
@@ -57,7 +58,7 @@ node-of-row n before x row f =
     cond (not (number-fits row (f .k))) (Err NumberOutside)
     (cond (not (there n before (row .a) (f .a) && there n before (row .b) (f .b))) (Err NotThere)
     (cond (not (of-sort before (row .a) (f .a) && of-sort before (row .b) (f .b))) (Err WrongSort)
-    (cond (ltb 8 (depth-of before row (f .a) (f .b))) (Err TooDeep)
+    (cond (ltb deepest (depth-of before row (f .a) (f .b))) (Err TooDeep)
     (Ok (record { form = x; depth = depth-of before row (f .a) (f .b) })))))
 
 -- the same of any kind
@@ -68,11 +69,11 @@ node-of-form n before (Some x) f = node-of-row n before x (shape-of x) f
 abbrev pub node-of-kind : ℕ → List Node → List ℕ → Result Node Flaw
 node-of-kind n before part = node-of-form n before (form-of (node-fields part)) (node-fields part)
 
--- nodes come before rules; there are 255 at the most
+-- nodes come before rules
 abbrev pub node-of : Content → List ℕ → Result Node Flaw
 node-of c part =
     cond (ltb 0 (length (c .rules))) (Err OutOfOrder)
-    (cond (leb 255 (length (c .nodes))) (Err TooMany)
+    (cond (leb most-nodes (length (c .nodes))) (Err TooMany)
     (node-of-kind (length (c .stations)) (c .nodes) part))
 
 -- a rule's two claims: a station and a node each
@@ -100,7 +101,7 @@ rule-of-kind n nodes part =
     (rule-of-slots n nodes (first-claim part) slot.Station slot.Range (second-claim part) (Conditional (first-claim part) (second-claim part)))
     (Err UnknownKind))
 
--- there are 255 rules at the most
+-- rules come last
 abbrev pub rule-of : Content → List ℕ → Result Rule Flaw
 rule-of c part =
-    cond (leb 255 (length (c .rules))) (Err TooMany) (rule-of-kind (length (c .stations)) (c .nodes) part)
+    cond (leb most-rules (length (c .rules))) (Err TooMany) (rule-of-kind (length (c .stations)) (c .nodes) part)

@@ -9,6 +9,7 @@ use crate::checks::is_there;
 use crate::checks::number_fits;
 use faults::Flaw;
 use sheet::Claim;
+use sheet::DEEPEST;
 use sheet::Fields;
 use sheet::Form;
 use sheet::Node;
@@ -52,7 +53,7 @@ fn node_of_row(
         return Err(Flaw::WrongSort);
     }
     let depth = depth_of(nodes, row, fields);
-    if depth > 8 {
+    if depth > DEEPEST {
         return Err(Flaw::TooDeep);
     }
     Ok(Node {

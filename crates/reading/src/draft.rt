@@ -16,6 +16,9 @@ use faults::SheetFault;
 use faults::SheetFromRefused;
 use records::Placed;
 use records::Record;
+use sheet::MOST_NODES;
+use sheet::MOST_RULES;
+use sheet::MOST_STATIONS;
 use sheet::Node;
 use sheet::Rule;
 use std::alloc::Global;
@@ -59,7 +62,7 @@ impl Draft {
         if self.nodes.len() > 0 || self.rules.len() > 0 {
             return Err(Flaw::OutOfOrder);
         }
-        if self.stations.len() >= 32 {
+        if self.stations.len() >= MOST_STATIONS {
             return Err(Flaw::TooMany);
         }
         let channels = word(part);
@@ -77,7 +80,7 @@ impl Draft {
         if self.rules.len() > 0 {
             return Err(Flaw::OutOfOrder);
         }
-        if self.nodes.len() >= 255 {
+        if self.nodes.len() >= MOST_NODES {
             return Err(Flaw::TooMany);
         }
         node(self.stations.len(), self.nodes.as_slice(), part)
@@ -88,7 +91,7 @@ impl Draft {
         requires { ⌜ length (now part) ≡ 7 ⌝ }
         ensures { λ r. ⌜ r ≡ rule-of (drafted (now (self .entry))) (now (part .entry)) ⌝ }
     {
-        if self.rules.len() >= 255 {
+        if self.rules.len() >= MOST_RULES {
             return Err(Flaw::TooMany);
         }
         rule(self.stations.len(), self.nodes.as_slice(), part)

@@ -3,6 +3,7 @@ use Prim.Native.Nat.{ℕ, _≤_}
 use lib.ListN.{length}
 use mathlib.Core.List.{List}
 use Rattle.std.specs.Of.Vec.{vec-items}
+use Rattle.sheet.specs.Limits.{most-stations, most-nodes, most-rules}
 use Rattle.sheet.specs.Sound.{Filled, Sound-nodes, Sound-rules}
 use Rattle.sheet.specs.declared.form.Node.{Node}
 use Rattle.sheet.specs.declared.form.Rule.{Rule}
@@ -18,9 +19,9 @@ content s = record { stations = vec-items (s .stations); nodes = vec-items (s .n
 
 -- the limits are kept, each station has a channel, and the nodes and rules name only what is there, of the right sort and not too deep
 pub record Valid (c : Content) : Type 0 where
-  pub few-stations : length (c .stations) ≤ 32
+  pub few-stations : length (c .stations) ≤ most-stations
   pub channels : Filled (c .stations)
-  pub few-nodes : length (c .nodes) ≤ 255
-  pub few-rules : length (c .rules) ≤ 255
+  pub few-nodes : length (c .nodes) ≤ most-nodes
+  pub few-rules : length (c .rules) ≤ most-rules
   pub nodes-sound : Sound-nodes (length (c .stations)) (c .nodes)
   pub rules-sound : Sound-rules (length (c .stations)) (c .nodes) (c .rules)

@@ -1,3 +1,4 @@
 pub mod Content
 pub mod Kinds
+pub mod Limits
 pub mod Sound

@@ -7,6 +7,7 @@ use lib.ListN.{length, getD, take}
 use mathlib.Core.Bool.{Bool, true, false, not, _&&_}
 use mathlib.Core.Path.{_≡_}
 use mathlib.Core.List.{List}
+use Rattle.sheet.specs.Limits.{deepest}
 use Rattle.sheet.specs.Kinds.{shape-of, fields-of, is-term}
 use Rattle.sheet.specs.declared.form.Form.the-variants.{Number}
 use Rattle.sheet.specs.declared.form.Slot.{Slot}
@@ -61,7 +62,7 @@ sound-row n before depth row f =
     within (row .least) (row .greatest) (f .k)
     && (there n before (row .a) (f .a) && there n before (row .b) (f .b))
     && (of-sort before (row .a) (f .a) && of-sort before (row .b) (f .b))
-    && (eqb depth (depth-of before row (f .a) (f .b)) && leb depth 8)
+    && (eqb depth (depth-of before row (f .a) (f .b)) && leb depth deepest)
 
 -- a node may stand behind the nodes before it, on a sheet of n stations
 abbrev pub sound-node : ℕ → List Node → Node → Bool

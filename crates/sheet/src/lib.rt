@@ -10,4 +10,8 @@ pub use form::Node;
 pub use form::Rule;
 pub use form::Shape;
 pub use form::Slot;
+pub use valid::DEEPEST;
+pub use valid::MOST_NODES;
+pub use valid::MOST_RULES;
+pub use valid::MOST_STATIONS;
 pub use valid::Sheet;
