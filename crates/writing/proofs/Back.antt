@@ -156,12 +156,12 @@ module _ {X : Type 0} (f : X → List ℕ) (items : List X) (y : X) (bytes : Lis
 
 station-more : (c : Content) (y : ℕ) (x : List ℕ) → c .nodes ≡ [] → c .rules ≡ [] → station-bytes y ≡ x → written (with-station c y) ≡ written c ++ x
 unfolding written
-station-more c y x no-nodes no-rules back = rw (no-nodes, no-rules, append-nil, append-nil) (last-more station-bytes (c .stations) y x back [])
+station-more c y x no-nodes no-rules back = simp (no-nodes, no-rules, append-nil) (last-more station-bytes (c .stations) y x back [])
 
 node-more : (c : Content) (y : Node) (x : List ℕ) → c .rules ≡ [] → node-bytes y ≡ x → written (with-node c y) ≡ written c ++ x
 unfolding written
 node-more c y x no-rules back =
-    rw (no-rules, append-nil, append-nil) (last-more node-bytes (c .nodes) y x back (joined station-bytes (c .stations)))
+    simp (no-rules, append-nil) (last-more node-bytes (c .nodes) y x back (joined station-bytes (c .stations)))
 
 rule-more : (c : Content) (y : Rule) (x : List ℕ) → rule-bytes y ≡ x → written (with-rule c y) ≡ written c ++ x
 unfolding written

@@ -244,4 +244,4 @@ module _ (c : Content) (v : Valid c) (some : 0 < length (c .stations)) (words : 
       let d = run rule rule-bytes rule-marked (λ xs. record { stations = c .stations; nodes = c .nodes; rules = xs }) r (c .rules) each-rule
       [] (c .rules) (b .0) [] refl (rw append-nil (b .1)) in
       let one : eqb (length (c .stations)) 0 ≡ false = grind (arith, tells) in
-      still-ends c (d .0) [] r (d .1) refl ∙ rw one
+      rw one at (still-ends c (d .0) [] r (d .1) refl)
