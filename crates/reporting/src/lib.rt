@@ -22,6 +22,7 @@ use lines::StationLine;
 use reading::read;
 use search::first_plan;
 use settling::settle;
+use sheet::MOST_STATIONS;
 use sheet::Sheet;
 use std::alloc::AllocError;
 use std::alloc::Global;
@@ -53,7 +54,7 @@ fn push_line<D: Display + Drop>(text: &mut String, line: D) -> Result<(), AllocE
 fn channels(sheet: &Sheet) -> Domains
     ensures { λ r. ⌜ ((s : ℕ) → getD r s 0 ≡ getD (vec-items (now (sheet .entry) .stations)) s 0) ⌝ }
 {
-    let mut domains = [0; 32];
+    let mut domains = [0; MOST_STATIONS];
     for s in 0..sheet.stations.len() {
         domains[s] = sheet.stations[s];
     }

@@ -4,10 +4,18 @@ mod kinds;
 mod valid;
 
 pub use form::Claim;
+pub use form::ClaimDebug;
+pub use form::ClaimPartialEq;
 pub use form::Fields;
 pub use form::Form;
+pub use form::FormDebug;
+pub use form::FormPartialEq;
 pub use form::Node;
+pub use form::NodeDebug;
+pub use form::NodePartialEq;
 pub use form::Rule;
+pub use form::RuleDebug;
+pub use form::RulePartialEq;
 pub use form::Shape;
 pub use form::Slot;
 pub use valid::DEEPEST;
