@@ -4,7 +4,6 @@ ghost use Rattle.faults.specs.Told.{told-at, number-of, told-bytes, told-sheet
 ghost use Rattle.faults.specs.declared.SheetFault.the-variants.{Bytes, Memory};
 ghost use Rattle.faults.specs.declared.PlanFault.the-variants.{Sheet};
 use std::alloc::AllocError;
-use std::alloc::Refused;
 
 // Where a fault stands: the record's number, counted through all sorts from 0, and its first byte.
 #[derive(Clone, Copy, Debug, PartialEq, Eq)]
@@ -78,14 +77,6 @@ pub impl From<AllocError> for SheetFault as SheetFromAlloc {
     ghost converts = { λ _ r. r ≡ Memory };
 
     fn from(_e: AllocError) -> SheetFault {
-        SheetFault::Memory
-    }
-}
-
-pub impl<T: Drop> From<Refused<T>> for SheetFault as SheetFromRefused {
-    ghost converts = { λ _ r. r ≡ Memory };
-
-    fn from(_e: Refused<T>) -> SheetFault {
         SheetFault::Memory
     }
 }

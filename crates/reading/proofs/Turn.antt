@@ -9,21 +9,13 @@ use Rattle.std.specs.declared.result.Result.the-variants.{Ok, Err}
 use Rattle.faults.specs.declared.Place.{Place}
 use Rattle.faults.specs.declared.BytesFault.{BytesFault}
 use Rattle.faults.specs.declared.SheetFault.{SheetFault}
-use Rattle.faults.specs.declared.SheetFault.the-variants.{Bytes, Record, NoStation, Memory}
 use Rattle.records.specs.Records.{front}
 use Rattle.records.specs.Handed.{Piece, offered, next-place, rest-of}
 use Rattle.records.proofs.Fronts.{offered-whole}
 use Rattle.sheet.specs.Content.{Content, Valid}
-use Rattle.reading.specs.Reading.{added, Refuses}
+use Rattle.reading.specs.Reading.{added}
 use Rattle.reading.proofs.Onto.{Still, still-flawed, still-added}
 use Rattle.reading.proofs.Validity.{added-valid}
-
--- a refusal says the same of what equals it
-refuses-by : (x y : Result Content SheetFault) (e : SheetFault) → ((g : SheetFault) → y ≡ Err g → x ≡ Err g) → Refuses y e → Refuses x e
-refuses-by x y Memory f h = tt
-refuses-by x y (Bytes e) f h = f (Bytes e) h
-refuses-by x y (Record e at) f h = f (Record e at) h
-refuses-by x y (NoStation at) f h = f (NoStation at) h
 
 module _
     (c : Content) (at : Place) (bytes : List ℕ) (x : Result Content SheetFault) (q : Piece)
@@ -39,7 +31,5 @@ module _
   )
 
   -- one that is refused
-  pub turn-refused : (e : SheetFault) → Refuses (added c (q .part .sort) (q .part .bytes) (q .place)) e → Refuses x e
-  turn-refused e r =
-      refuses-by x (added c (q .part .sort) (q .part .bytes) (q .place)) e
-      (λ g a. still-flawed c at bytes x more q g s (sym h) (at-place (Err g) a)) r
+  pub turn-refused : (e : SheetFault) → added c (q .part .sort) (q .part .bytes) (q .place) ≡ Err e → x ≡ Err e
+  turn-refused e a = still-flawed c at bytes x more q e s (sym h) (at-place (Err e) a)

@@ -7,10 +7,9 @@ use Rattle.std.specs.declared.result.Result.the-variants.{Ok, Err}
 use Rattle.faults.specs.declared.Flaw.{Flaw}
 use Rattle.faults.specs.declared.Place.{Place}
 use Rattle.faults.specs.declared.SheetFault.{SheetFault}
-use Rattle.faults.specs.declared.SheetFault.the-variants.{Record, Memory}
+use Rattle.faults.specs.declared.SheetFault.the-variants.{Record}
 use Rattle.sheet.specs.Content.{Content}
-use Rattle.reading.specs.Reading.{Refuses}
-use Rattle.reading.specs.declared.draft.Draft.{Draft}
+use Rattle.reading.specs.declared.room.Draft.{Draft}
 
 abbrev pub drafted : Draft → Content
 drafted d = record { stations = vec-items (d .stations); nodes = vec-items (d .nodes); rules = vec-items (d .rules) }
@@ -18,11 +17,11 @@ drafted d = record { stations = vec-items (d .stations); nodes = vec-items (d .n
 -- an answer to one record more, and what was read then
 abbrev pub Adds : Result Content SheetFault → Result (Unit {0}) SheetFault → Draft → Type 0
 Adds x (Ok _) d = x ≡ Ok (drafted d)
-Adds x (Err e) d = Refuses x e
+Adds x (Err e) d = x ≡ Err e
 
--- an item is put behind the others, or it finds no memory; a flaw is told at its place
+-- an item is put behind the others; a flaw is told at its place
 abbrev pub Puts : {X : Type 0} → Result X Flaw → Place → List X → List X → Result (Unit {0}) SheetFault → Type 0
 Puts (Ok x) at before after (Ok _) = after ≡ before ++ x ∷ []
-Puts (Ok x) at before after (Err e) = e ≡ Memory
+Puts (Ok x) at before after (Err e) = ⊥
 Puts (Err f) at before after (Ok _) = ⊥
 Puts (Err f) at before after (Err e) = e ≡ Record f at

@@ -68,14 +68,15 @@ onto (suc n) c at bytes =
 unfoldable pub reading : List ℕ → Result Content SheetFault
 reading bytes = onto (length bytes) nothing start bytes
 
--- what a refusal says of the definition's answer: that it is the same, unless memory was wanting
-abbrev pub Refuses : Result Content SheetFault → SheetFault → Type 0
-Refuses x Memory = Unit {0}
-Refuses x (Bytes f) = x ≡ Err (Bytes f)
-Refuses x (Record f at) = x ≡ Err (Record f at)
-Refuses x (NoStation at) = x ≡ Err (NoStation at)
-
--- an answer of the reader is what the definition says, or want of memory
+-- an answer of the reader is the definition's
 abbrev pub Reads : Result Content SheetFault → Result Sheet SheetFault → Type 0
 Reads x (Ok s) = x ≡ Ok (content s)
-Reads x (Err e) = Refuses x e
+Reads x (Err e) = x ≡ Err e
+
+-- the same, unless memory was wanting
+abbrev pub Reads-or-wants : Result Content SheetFault → Result Sheet SheetFault → Type 0
+Reads-or-wants x (Ok s) = Reads x (Ok s)
+Reads-or-wants x (Err Memory) = Unit {0}
+Reads-or-wants x (Err (Bytes f)) = Reads x (Err (Bytes f))
+Reads-or-wants x (Err (Record f at)) = Reads x (Err (Record f at))
+Reads-or-wants x (Err (NoStation at)) = Reads x (Err (NoStation at))

@@ -1,19 +1,23 @@
-// What was read so far, and one record more.
-ghost use Prim.Native.Nat.{_≤_};
+// One record more.
+ghost use Prim.Native.Nat.{_≤_, _<_};
+ghost use mathlib.Core.Bool.{true};
 ghost use mathlib.Core.Path.{_≡_};
 ghost use lib.ListN.{length};
-ghost use Rattle.std.specs.Of.Vec.{vec-items};
+ghost use Rattle.std.specs.Of.Vec.{vec-cap, vec-items, vec-len};
+ghost use Rattle.std.specs.Results.{isOk};
 ghost use Rattle.records.specs.Records.{part as part-of, size, station, node, rule};
+ghost use Rattle.sheet.specs.Limits.{most-stations, most-nodes, most-rules};
 ghost use Rattle.reading.specs.Drafts.{drafted, Adds, Puts};
 ghost use Rattle.reading.specs.Reading.{nothing, added};
 ghost use Rattle.reading.specs.Decoding.{station-of, node-of, rule-of};
 use crate::decode::node;
 use crate::decode::rule;
 use crate::decode::word;
+use crate::room::Draft;
+use crate::room::Room;
 use faults::Flaw;
 use faults::Place;
 use faults::SheetFault;
-use faults::SheetFromRefused;
 use records::Placed;
 use records::Record;
 use sheet::MOST_NODES;
@@ -21,22 +25,16 @@ use sheet::MOST_RULES;
 use sheet::MOST_STATIONS;
 use sheet::Node;
 use sheet::Rule;
-use std::alloc::Global;
-
-#[derive(Drop)]
-pub(crate) struct Draft {
-    pub stations: Vec<u64>,
-    pub nodes: Vec<Node>,
-    pub rules: Vec<Rule>,
-}
 
 // What a record says is put in, or what is wrong with it is told at its place.
-fn put<T: Drop>(items: &mut Vec<T>, found: Result<T, Flaw>, place: Place) -> Result<(), SheetFault>
-    ensures { λ r. ⌜ Puts found place (vec-items (now (items .entry))) (vec-items (now (items .exit))) r ⌝ }
+fn put<T>(items: &mut Vec<T>, found: Result<T, Flaw>, place: Place) -> Result<(), SheetFault>
+    requires { ⌜ (isOk found ≡ true → vec-len (now items) < vec-cap (now items)) ⌝ }
+    ensures puts { λ r. ⌜ Puts found place (vec-items (now (items .entry))) (vec-items (now (items .exit))) r ⌝ }
+    ensures capacity { λ _. ⌜ vec-cap (now (items .exit)) ≡ vec-cap (now (items .entry)) ⌝ }
 {
     match found {
         Ok(item) => {
-            items.push(item)?;
+            items.push_reserved(item);
             Ok(())
         }
         Err(flaw) => Err(SheetFault::Record(flaw, place)),
@@ -44,20 +42,27 @@ fn put<T: Drop>(items: &mut Vec<T>, found: Result<T, Flaw>, place: Place) -> Res
 }
 
 impl Draft {
-    pub(crate) fn new(heap: Global) -> Draft
+    // Nothing is read yet.
+    pub(crate) fn new(room: Room) -> Draft
         ensures { λ r. ⌜ drafted r ≡ nothing ⌝ }
     {
+        let Room {
+            stations,
+            nodes,
+            rules,
+        } = room;
         Draft {
-            stations: Vec::new(heap),
-            nodes: Vec::new(heap),
-            rules: Vec::new(heap),
+            stations,
+            nodes,
+            rules,
         }
     }
 
     // The channels of a station's record.
     fn station(&self, part: &[u8]) -> Result<u64, Flaw>
         requires { ⌜ length (now part) ≡ 10 ⌝ }
-        ensures { λ r. ⌜ r ≡ station-of (drafted (now (self .entry))) (now (part .entry)) ⌝ }
+        ensures value { λ r. ⌜ r ≡ station-of (drafted (now (self .entry))) (now (part .entry)) ⌝ }
+        ensures room { λ r. ⌜ (isOk r ≡ true → vec-len (now (self .entry) .stations) < most-stations) ⌝ }
     {
         if self.nodes.len() > 0 || self.rules.len() > 0 {
             return Err(Flaw::OutOfOrder);
@@ -75,7 +80,8 @@ impl Draft {
     // The node of a node's record.
     fn node(&self, part: &[u8]) -> Result<Node, Flaw>
         requires { ⌜ length (now part) ≡ 7 ⌝ }
-        ensures { λ r. ⌜ r ≡ node-of (drafted (now (self .entry))) (now (part .entry)) ⌝ }
+        ensures value { λ r. ⌜ r ≡ node-of (drafted (now (self .entry))) (now (part .entry)) ⌝ }
+        ensures room { λ r. ⌜ (isOk r ≡ true → vec-len (now (self .entry) .nodes) < most-nodes) ⌝ }
     {
         if self.rules.len() > 0 {
             return Err(Flaw::OutOfOrder);
@@ -89,7 +95,8 @@ impl Draft {
     // The rule of a rule's record.
     fn rule(&self, part: &[u8]) -> Result<Rule, Flaw>
         requires { ⌜ length (now part) ≡ 7 ⌝ }
-        ensures { λ r. ⌜ r ≡ rule-of (drafted (now (self .entry))) (now (part .entry)) ⌝ }
+        ensures value { λ r. ⌜ r ≡ rule-of (drafted (now (self .entry))) (now (part .entry)) ⌝ }
+        ensures room { λ r. ⌜ (isOk r ≡ true → vec-len (now (self .entry) .rules) < most-rules) ⌝ }
     {
         if self.rules.len() >= MOST_RULES {
             return Err(Flaw::TooMany);

@@ -3,7 +3,7 @@ use Rattle.sheet.specs.Content.{Valid}
 use Rattle.reading.specs.Drafts.{drafted}
 use Rattle.reading.specs.Reading.{reading}
 use Rattle.reading.proofs.Onto.{Still}
-use Rattle.reading.proofs.read.Given as given
+use Rattle.reading.proofs.read_in.Given as given
 
 -- reading the rest onto the draft is reading the whole
 abbrev pub Inv-loop-reader : given.InvT-loop-reader
