@@ -15,6 +15,7 @@ use Rattle.sheet.specs.declared.form.Rule.the-variants.{Plain, Conditional}
 use Rattle.sheet.specs.declared.form.Form.{Form}
 use Rattle.sheet.specs.declared.form.Form.the-variants.{Number, Station, Sum, Difference, Multiple, Quotient, Remainder, Between, AtLeast, AtMost, Channels, Union, Intersection, Complement, Shift}
 
+-- the depth of node i
 abbrev pub depth-at : List Node → ℕ → ℕ
 depth-at nodes i = getD nodes i no-node .depth
 
@@ -38,6 +39,7 @@ pub record Divisor (k : ℤ) : Type 0 where
   pub some : 1 ≤ natAbs k
   pub few : natAbs k ≤ 64
 
+-- what node i's form says of its parts: the nodes that it names, the station, and the size of its number
 abbrev pub Known : List Node → ℕ → Form → Type 0
 Known nodes i (Number k) = (natAbs k ≤ 1000) × (1000 ≤ bound (depth-at nodes i))
 Known nodes i (Station s) = (s < 32) × (1000 ≤ bound (depth-at nodes i))
@@ -61,6 +63,7 @@ pub record Placed (stations : ℕ) (nodes : List Node) (c : Claim) : Type 0 wher
   pub range : c .range < length nodes
   pub sort : term-at nodes (c .range) ≡ false
 
+-- so does each claim of a rule
 abbrev pub Placed-rule : ℕ → List Node → Rule → Type 0
 Placed-rule n nodes (Plain c) = Placed n nodes c
 Placed-rule n nodes (Conditional c d) = Placed n nodes c × Placed n nodes d
