@@ -1,8 +1,10 @@
-// Tests of the report: whole reports of small sheets, worked out by hand.
+// Tests of the report and of verdicts, on small sheets worked out by hand.
 #[cfg(test)]
 mod refused;
 #[cfg(test)]
 mod reports;
+#[cfg(test)]
+mod verdicts;
 #[cfg(test)]
 mod wide;
 #[cfg(test)]
