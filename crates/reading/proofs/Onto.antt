@@ -36,23 +36,23 @@ unfolding onto
 onto-end zero c at bytes e = refl
 onto-end (suc n) c at bytes e = rw (end-front bytes e, onto)
 
-module _ (c : Content) (at : Place) (bytes : List ℕ) (more : 0 < length bytes) where
-  -- where no record stands
-  refused-at : (n : ℕ) (s : Sight) (e : BytesFault) → front bytes ≡ s → offered at s ≡ Err e → onto (suc n) c at bytes ≡ Err (Bytes e)
-  unfolding onto
-  refused-at n end e f h = absurd (omega (arith, front-end bytes f))
-  refused-at n cut e f h = rw (f, onto) (cc)
-  refused-at n unknown e f h = rw (f, onto) (cc)
-  refused-at n (whole p rest) e f h = grind arith
+-- where no record stands, though bytes are left
+refused-at : (c : Content) (at : Place) (bytes : List ℕ) → 0 < length bytes → (n : ℕ) (s : Sight) (e : BytesFault) → front bytes ≡ s → offered at s ≡ Err e → onto (suc n) c at bytes ≡ Err (Bytes e)
+unfolding onto
+refused-at c at bytes more n end e f h = absurd (omega (arith, front-end bytes f))
+refused-at c at bytes more n cut e f h = rw (f, onto) (cc)
+refused-at c at bytes more n unknown e f h = rw (f, onto) (cc)
+refused-at c at bytes more n (whole p rest) e f h = grind arith
 
-  -- where a record stands
-  granted-at : (n : ℕ) (p : Part) (rest : List ℕ) (d : Content) → front bytes ≡ whole p rest → added c (p .sort) (p .bytes) at ≡ Ok d → onto (suc n) c at bytes ≡ onto n d (next-place at (whole p rest)) rest
+-- where a record stands
+module _ (c : Content) (at : Place) (bytes : List ℕ) (n : ℕ) (p : Part) (rest : List ℕ) (f : front bytes ≡ whole p rest) where
+  granted-at : (d : Content) → added c (p .sort) (p .bytes) at ≡ Ok d → onto (suc n) c at bytes ≡ onto n d (next-place at (whole p rest)) rest
   unfolding onto
-  granted-at n p rest d f h = rw (f, onto) (rw h)
+  granted-at d h = rw (f, onto) (rw h)
 
-  flawed-at : (n : ℕ) (p : Part) (rest : List ℕ) (e : SheetFault) → front bytes ≡ whole p rest → added c (p .sort) (p .bytes) at ≡ Err e → onto (suc n) c at bytes ≡ Err e
+  flawed-at : (e : SheetFault) → added c (p .sort) (p .bytes) at ≡ Err e → onto (suc n) c at bytes ≡ Err e
   unfolding onto
-  flawed-at n p rest e f h = rw (f, onto) (rw h)
+  flawed-at e h = rw (f, onto) (rw h)
 
 -- what one turn of reading comes to
 pub data Step (n : ℕ) (c : Content) (at : Place) (bytes : List ℕ) (r : Result Content SheetFault) : Type 0 where
@@ -63,9 +63,8 @@ pub data Step (n : ℕ) (c : Content) (at : Place) (bytes : List ℕ) (r : Resul
 
 record-step : (n : ℕ) (c : Content) (at : Place) (bytes : List ℕ) (r : Result Content SheetFault) (p : Part) (rest : List ℕ) (a : Result Content SheetFault)
     → front bytes ≡ whole p rest → added c (p .sort) (p .bytes) at ≡ a → onto (suc n) c at bytes ≡ r → Step n c at bytes r
-unfolding onto
-record-step n c at bytes r p rest (Ok d) f h e = further p rest d f h (sym (rw (f, onto) (rw h)) ∙ e)
-record-step n c at bytes r p rest (Err g) f h e = flawed p rest g f h (sym (rw (f, onto) (rw h)) ∙ e)
+record-step n c at bytes r p rest (Ok d) f h e = further p rest d f h (sym (granted-at c at bytes n p rest f d h) ∙ e)
+record-step n c at bytes r p rest (Err g) f h e = flawed p rest g f h (sym (flawed-at c at bytes n p rest f g h) ∙ e)
 
 step-at : (n : ℕ) (c : Content) (at : Place) (bytes : List ℕ) (r : Result Content SheetFault) (s : Sight) → front bytes ≡ s → onto (suc n) c at bytes ≡ r → Step n c at bytes r
 unfolding onto
@@ -103,7 +102,7 @@ module _ (c : Content) (at : Place) (bytes : List ℕ) (x : Result Content Sheet
   still-flawed-at unknown q e f s h a = grind arith
   still-flawed-at (whole p rest) q e f s h a =
       let same : p ≡ q .part = cc in
-      sym (one-more s) ∙ flawed-at c at bytes more (s .bound - 1) p rest e f (rw same a)
+      sym (one-more s) ∙ flawed-at c at bytes (s .bound - 1) p rest f e (rw same a)
 
   pub still-flawed : (q : Piece) (e : SheetFault) → Still c at bytes x → offered at (front bytes) ≡ Ok q → added c (q .part .sort) (q .part .bytes) at ≡ Err e → x ≡ Err e
   still-flawed q e s h a = still-flawed-at (front bytes) q e refl s h a
@@ -117,7 +116,7 @@ module _ (c : Content) (at : Place) (bytes : List ℕ) (x : Result Content Sheet
       record {
         bound = s .bound - 1;
         enough = omega (arith, s .enough, length-front bytes p rest f, size-least (p .sort));
-        same = sym (granted-at c at bytes more (s .bound - 1) p rest d f (rw same a)) ∙ one-more s;
+        same = sym (granted-at c at bytes (s .bound - 1) p rest f d (rw same a)) ∙ one-more s;
       }
 
   pub still-added : (q : Piece) (d : Content) → Still c at bytes x → offered at (front bytes) ≡ Ok q → added c (q .part .sort) (q .part .bytes) at ≡ Ok d → Still d (next-place at (front bytes)) (rest-of bytes (front bytes)) x

@@ -66,6 +66,7 @@ abbrev pub node-of-form : ℕ → List Node → Option Form → Fields → Resul
 node-of-form n before None f = Err UnknownKind
 node-of-form n before (Some x) f = node-of-row n before x (shape-of x) f
 
+-- a node by its record
 abbrev pub node-of-kind : ℕ → List Node → List ℕ → Result Node Flaw
 node-of-kind n before part = node-of-form n before (form-of (node-fields part)) (node-fields part)
 
@@ -76,10 +77,11 @@ node-of c part =
     (cond (leb most-nodes (length (c .nodes))) (Err TooMany)
     (node-of-kind (length (c .stations)) (c .nodes) part))
 
--- a rule's two claims: a station and a node each
+-- a rule's first claim: a station and a node
 abbrev pub first-claim : List ℕ → Claim
 first-claim part = record { station = byte part 3; range = byte part 4 }
 
+-- its second claim
 abbrev pub second-claim : List ℕ → Claim
 second-claim part = record { station = byte part 5; range = byte part 6 }
 

@@ -11,6 +11,7 @@ use Rattle.faults.specs.declared.SheetFault.the-variants.{Record}
 use Rattle.sheet.specs.Content.{Content}
 use Rattle.reading.specs.declared.room.Draft.{Draft}
 
+-- what a draft holds
 abbrev pub drafted : Draft → Content
 drafted d = record { stations = vec-items (d .stations); nodes = vec-items (d .nodes); rules = vec-items (d .rules) }
 

@@ -24,13 +24,15 @@ use Rattle.reading.specs.Decoding.{station-of, node-of, rule-of}
 abbrev pub nothing : Content
 nothing = record { stations = []; nodes = []; rules = [] }
 
--- one more of a sort
+-- one station more
 abbrev pub with-station : Content → ℕ → Content
 with-station c x = record { stations = c .stations ++ x ∷ []; nodes = c .nodes; rules = c .rules }
 
+-- one node more
 abbrev pub with-node : Content → Node → Content
 with-node c x = record { stations = c .stations; nodes = c .nodes ++ x ∷ []; rules = c .rules }
 
+-- one rule more
 abbrev pub with-rule : Content → Rule → Content
 with-rule c x = record { stations = c .stations; nodes = c .nodes; rules = c .rules ++ x ∷ [] }
 

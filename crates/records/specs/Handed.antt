@@ -43,14 +43,16 @@ next-place at cut = at
 next-place at unknown = at
 next-place at (whole p rest) = record { «record» = at .«record» + 1; byte = at .byte + size (p .sort) }
 
--- what the code's answers say
+-- what the code hands out, as a record and its place
 abbrev pub piece : Placed → Piece
 piece p = record { part = part (p .«record»); place = p .place }
 
+-- the same of an answer with a record or a fault
 abbrev pub handed : Result Placed BytesFault → Result Piece BytesFault
 handed (Ok p) = Ok (piece p)
 handed (Err e) = Err e
 
+-- and of one with a record or nothing
 abbrev pub found : Option Placed → Option Piece
 found (Some p) = Some (piece p)
 found None = None

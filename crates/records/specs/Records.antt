@@ -44,10 +44,12 @@ pub data Sight : Type 0 where
 abbrev pub of-size : Sort → List ℕ → Sight
 of-size s bytes = cond (ltb (length bytes) (size s)) cut (whole (record { sort = s; bytes = take (size s) bytes }) (drop (size s) bytes))
 
+-- of any mark
 abbrev pub of-mark : Option Sort → List ℕ → Sight
 of-mark None bytes = unknown
 of-mark (Some s) bytes = of-size s bytes
 
+-- what stands at the front: fewer than two bytes are a mark cut off
 unfoldable pub front : List ℕ → Sight
 front bytes =
     cond (eqb (length bytes) 0) end (cond (ltb (length bytes) 2) cut (of-mark (marked (getD bytes 0 0) (getD bytes 1 0)) bytes))

@@ -1,8 +1,12 @@
-// Tests of the report and of verdicts, on small sheets worked out by hand.
+// Tests of judging and of the report, on small sheets worked out by hand.
+#[cfg(test)]
+mod judged;
 #[cfg(test)]
 mod refused;
 #[cfg(test)]
 mod reports;
+#[cfg(test)]
+mod sheets;
 #[cfg(test)]
 mod verdicts;
 #[cfg(test)]

@@ -19,7 +19,7 @@ fn is_reported(heap: Global, case: &Case) -> Result<(), Fail> {
     check_eq(text.as_str(), case.text).note(case.shows)
 }
 
-pub fn are_reported(heap: Global, cases: &[Case]) -> Result<(), Fail> {
+pub(crate) fn are_reported(heap: Global, cases: &[Case]) -> Result<(), Fail> {
     for case in cases {
         is_reported(heap, case)?;
     }

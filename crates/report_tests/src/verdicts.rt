@@ -1,5 +1,6 @@
 // Verdicts in a sheet's own channels, before anything is settled: no report can show a broken rule, since it leaves nothing settled.
-use faults::SheetFaultDebug;
+use crate::sheets::channels_of;
+use crate::sheets::sheet_of;
 use judging::Verdict;
 use judging::Verdict::Broken;
 use judging::Verdict::Open;
@@ -7,24 +8,17 @@ use judging::Verdict::Sure;
 use judging::VerdictDebug;
 use judging::VerdictPartialEq;
 use judging::verdict;
-use reading::read;
 use sheet_tests::Row;
 use sheet_tests::Row::Nd;
 use sheet_tests::Row::Ru;
 use sheet_tests::Row::St;
-use sheet_tests::bytes_of;
 use std::alloc::Global;
 use std::test::*;
 
 // The verdict on a rule of some rows, in the channels that they give their stations.
 fn verdict_of(heap: Global, rows: &[Row], rule: usize) -> Result<Option<Verdict>, Fail> {
-    let bytes = bytes_of(heap, rows)?;
-    let sheet = read(heap, bytes.as_slice())?;
-    let mut domains = [0; 32];
-    for s in 0..sheet.stations.len() {
-        domains[s] = sheet.stations[s];
-    }
-    Ok(verdict(&sheet, &domains, rule))
+    let sheet = sheet_of(heap, rows)?;
+    Ok(verdict(&sheet, &channels_of(&sheet), rule))
 }
 
 // A station's channels, and the verdict on its being from 1 upwards.

@@ -1,27 +1,11 @@
 // The search for plans: one channel for each station, so that every rule holds.
 ghost use Prim.Native.Nat.{_≤_};
-ghost use lib.Count.{ones, trailingZeros};
-ghost use lib.Dec.{eqb};
-ghost use mathlib.Core.Bool.{cond};
-ghost use mathlib.Core.Path.{_≡_};
 ghost use Rattle.search.specs.Plan.{Fixed, Picks};
 ghost use Rattle.std.specs.Of.Vec.{vec-len};
 ghost use Rattle.std.specs.Slices.{found};
-ghost use Rattle.std.specs.declared.option.Option.the-variants.{None, Some};
 use judging::Domains;
 use settling::settle;
 use sheet::Sheet;
-
-// The channel of a set that has one; nothing where it has none or several.
-pub fn channel_of(word: u64) -> Option<u32>
-    ensures { λ r. ⌜ r ≡ cond (eqb (ones word) 1) (Some (trailingZeros 64 word)) None ⌝ }
-{
-    if word.count_ones() == 1 {
-        Some(word.trailing_zeros())
-    } else {
-        None
-    }
-}
 
 // The first plan among settled channels, of which the stations below `station` have one each.
 // Each channel of the next station is tried, lowest first: the station is cut to it, and what is left is settled.

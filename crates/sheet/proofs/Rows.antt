@@ -4,6 +4,7 @@ use mathlib.Core.Bool.{true}
 use mathlib.Core.List.{List}
 use mathlib.Core.Path.{_≡_}
 use Rattle.std.proofs.shelf.Tests.{and-parts, eqb-true, leb-true}
+use Rattle.sheet.specs.Limits.{deepest}
 use Rattle.sheet.specs.Sound.{within, there, of-sort, depth-of, sound-row}
 use Rattle.sheet.specs.declared.form.Fields.{Fields}
 use Rattle.sheet.specs.declared.form.Node.{Node}
@@ -17,7 +18,7 @@ pub record Row (n : ℕ) (before : List Node) (d : ℕ) (row : Shape) (f : Field
   pub a-sort : of-sort before (row .a) (f .a) ≡ true
   pub b-sort : of-sort before (row .b) (f .b) ≡ true
   pub deep : d ≡ depth-of before row (f .a) (f .b)
-  pub shallow : d ≤ 8
+  pub shallow : d ≤ deepest
 
 pub row-of : (n : ℕ) (before : List Node) (d : ℕ) (row : Shape) (f : Fields) → sound-row n before d row f ≡ true → Row n before d row f
 row-of n before d row f e =

@@ -9,11 +9,13 @@ use Rattle.sheet.specs.declared.form.Node.{Node}
 use Rattle.sheet.specs.declared.form.Rule.{Rule}
 use Rattle.sheet.specs.declared.valid.Sheet.{Sheet}
 
+-- the stations' sets of channels, the nodes and the rules, each in order
 pub record Content : Type 0 where
   pub stations : List ℕ
   pub nodes : List Node
   pub rules : List Rule
 
+-- the content of a sheet
 abbrev pub content : Sheet → Content
 content s = record { stations = vec-items (s .stations); nodes = vec-items (s .nodes); rules = vec-items (s .rules) }
 

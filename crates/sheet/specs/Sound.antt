@@ -73,6 +73,7 @@ abbrev pub sound-claim : ℕ → List Node → Claim → Bool
 sound-claim n nodes c =
     (ltb (c .station) n && ltb (c .range) (length nodes)) && not (is-term (getD nodes (c .range) no-node .form))
 
+-- so does each claim of a rule
 abbrev pub sound-rule : ℕ → List Node → Rule → Bool
 sound-rule n nodes (Plain c) = sound-claim n nodes c
 sound-rule n nodes (Conditional c d) = sound-claim n nodes c && sound-claim n nodes d

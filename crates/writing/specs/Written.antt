@@ -26,6 +26,7 @@ station-bytes w =
 abbrev pub fields-bytes : Fields → List ℕ
 fields-bytes f = 78 ∷ 68 ∷ f .kind ∷ f .a ∷ f .b ∷ ofZ w16 (f .k) / 256 % 256 ∷ ofZ w16 (f .k) % 256 ∷ []
 
+-- a node by its fields
 abbrev pub node-bytes : Node → List ℕ
 node-bytes x = fields-bytes (fields-of (x .form))
 
