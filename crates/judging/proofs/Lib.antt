@@ -1,3 +1,10 @@
-pub mod Bits
+pub mod Among
+pub mod Answered
 pub mod Bounds
+pub mod Ints
+pub mod Laws
 pub mod Nodes
+pub mod RangeLaws
+pub mod Shifts
+pub mod TermLaws
+pub mod Trees

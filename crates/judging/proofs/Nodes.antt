@@ -12,19 +12,17 @@ use mathlib.Core.List.{List}
 use mathlib.Core.Path.{_≡_, refl, sym, ap, subst, _∙_}
 use Rattle.std.proofs.shelf.Tests.{and-parts, not-true, eqb-true, leb-true, ltb-true}
 use Rattle.judging.specs.Bounds.{bound}
-use Rattle.judging.specs.Known.{Known, Names, Divisor, Placed, Placed-rule, depth-at, term-at}
+use Rattle.judging.specs.Known.{Known, Names, Divisor}
+use Rattle.judging.specs.Nodes.{depth-at, term-at}
 use Rattle.judging.proofs.Bounds.{bound-up, bound-step, bound-8, bound-1}
 use Rattle.sheet.proofs.Rows.{Row, row-of}
 use Rattle.sheet.specs.Kinds.{shape-of, fields-of, is-term}
-use Rattle.sheet.specs.Sound.{no-node, within, there, of-sort, depth-below, depth-of, sound-row, sound-node, Sound-nodes, sound-claim, sound-rule}
+use Rattle.sheet.specs.Sound.{no-node, within, there, of-sort, depth-below, depth-of, sound-row, sound-node, Sound-nodes}
 use Rattle.sheet.specs.declared.form.Fields.{Fields}
 use Rattle.sheet.specs.declared.form.Node.{Node}
 use Rattle.sheet.specs.declared.form.Shape.{Shape}
 use Rattle.sheet.specs.declared.form.Slot.{Slot}
 use Rattle.sheet.specs.declared.form.Slot.the-variants as slot
-use Rattle.sheet.specs.declared.form.Claim.{Claim}
-use Rattle.sheet.specs.declared.form.Rule.{Rule}
-use Rattle.sheet.specs.declared.form.Rule.the-variants.{Plain, Conditional}
 use Rattle.sheet.specs.declared.form.Form.{Form}
 use Rattle.sheet.specs.declared.form.Form.the-variants.{Number, Station, Sum, Difference, Multiple, Quotient, Remainder, Between, AtLeast, AtMost, Channels, Union, Intersection, Complement, Shift}
 
@@ -34,6 +32,9 @@ depths n nodes sound i h =
     let x : Form = getD nodes i no-node .form in
     let r : Row n (take i nodes) (depth-at nodes i) (shape-of x) (fields-of x) = row-of n (take i nodes) _ _ _ (sound i h) in
     (omega (arith, r .deep), r .shallow)
+
+pub bounded-depth : (n : ℕ) (nodes : List Node) → Sound-nodes n nodes → (i : ℕ) → i < length nodes → bound (depth-at nodes i) ≤ 268435456000
+bounded-depth n nodes sound i h = omega (arith, bound-up _ _ (depths n nodes sound i h .1), bound-8)
 
 -- a node that stands before node i and is less deep
 names : (n : ℕ) (nodes : List Node) → Sound-nodes n nodes → (i : ℕ) → i < length nodes → (v : ℕ) (b : Bool) → ltb v (length (take i nodes)) ≡ true
@@ -75,9 +76,9 @@ module _ (n : ℕ) (nodes : List Node) (few : n ≤ 32) (sound : Sound-nodes n n
       → getD (take i nodes) v no-node .depth < depth-at nodes i → Names false nodes i v
   range v t s d = names n nodes sound i h v false t (not-true _ s) d
 
-  by-row : (x : Form) → Row n (take i nodes) (depth-at nodes i) (shape-of x) (fields-of x) → Known nodes i x
+  by-row : (x : Form) → Row n (take i nodes) (depth-at nodes i) (shape-of x) (fields-of x) → Known n nodes i x
   by-row (Number k) r = (omega (arith, ints, limits-of (negsuc 999) (pos 1000) k (r .limits)), omega (arith, r .deep, bound-up 1 (depth-at nodes i) (omega (arith, r .deep)), bound-1))
-  by-row (Station s) r = (omega (arith, ltb-true _ _ (r .a-there)), omega (arith, r .deep, bound-up 1 (depth-at nodes i) (omega (arith, r .deep)), bound-1))
+  by-row (Station s) r = (ltb-true _ _ (r .a-there), omega (arith, ltb-true _ _ (r .a-there)), omega (arith, r .deep, bound-up 1 (depth-at nodes i) (omega (arith, r .deep)), bound-1))
   by-row (Sum a b) r = (term a (r .a-there) (r .a-sort) (omega (arith, r .deep)), term b (r .b-there) (r .b-sort) (omega (arith, r .deep)))
   by-row (Difference a b) r = (term a (r .a-there) (r .a-sort) (omega (arith, r .deep)), term b (r .b-there) (r .b-sort) (omega (arith, r .deep)))
   by-row (Multiple k a) r = (omega (arith, ints, limits-of (negsuc 15) (pos 16) k (r .limits)), term a (r .a-there) (r .a-sort) (omega (arith, r .deep)))
@@ -86,21 +87,11 @@ module _ (n : ℕ) (nodes : List Node) (few : n ≤ 32) (sound : Sound-nodes n n
   by-row (Between a b) r = (term a (r .a-there) (r .a-sort) (omega (arith, r .deep)), term b (r .b-there) (r .b-sort) (omega (arith, r .deep)))
   by-row (AtLeast a) r = term a (r .a-there) (r .a-sort) (omega (arith, r .deep))
   by-row (AtMost a) r = term a (r .a-there) (r .a-sort) (omega (arith, r .deep))
-  by-row (Channels s) r = omega (arith, ltb-true _ _ (r .a-there))
+  by-row (Channels s) r = (ltb-true _ _ (r .a-there), omega (arith, ltb-true _ _ (r .a-there)))
   by-row (Union a b) r = (range a (r .a-there) (r .a-sort) (omega (arith, r .deep)), range b (r .b-there) (r .b-sort) (omega (arith, r .deep)))
   by-row (Intersection a b) r = (range a (r .a-there) (r .a-sort) (omega (arith, r .deep)), range b (r .b-there) (r .b-sort) (omega (arith, r .deep)))
   by-row (Complement a) r = range a (r .a-there) (r .a-sort) (omega (arith, r .deep))
   by-row (Shift a b) r = (range a (r .a-there) (r .a-sort) (omega (arith, r .deep)), term b (r .b-there) (r .b-sort) (omega (arith, r .deep)))
 
-  pub known : Known nodes i (getD nodes i no-node .form)
+  pub known : Known n nodes i (getD nodes i no-node .form)
   known = by-row _ (row-of n (take i nodes) _ _ _ (sound i h))
-
-placed : (n : ℕ) (nodes : List Node) (c : Claim) → sound-claim n nodes c ≡ true → Placed n nodes c
-placed n nodes c e =
-    let p = and-parts _ _ e in
-    let q = and-parts _ _ (p .0) in
-    record { station = ltb-true _ _ (q .0); range = ltb-true _ _ (q .1); sort = not-true _ (p .1) }
-
-pub placed-rule : (n : ℕ) (nodes : List Node) (r : Rule) → sound-rule n nodes r ≡ true → Placed-rule n nodes r
-placed-rule n nodes (Plain c) e = placed n nodes c e
-placed-rule n nodes (Conditional c d) e = let p = and-parts _ _ e in (placed n nodes c (p .0), placed n nodes d (p .1))

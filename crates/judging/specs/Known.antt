@@ -1,27 +1,14 @@
 -- What a sheet promises of a node, by what the node says.
 use Prim.Native.Nat.{ℕ, _*_, _<_, _≤_}
 use lib.IntN.{ℤ, pos, natAbs}
-use lib.ListN.{length, getD}
 use mathlib.Core.Bool.{Bool, true, false}
 use mathlib.Core.List.{List}
 use mathlib.Core.Path.{_≡_}
 use Rattle.judging.specs.Bounds.{bound}
-use Rattle.sheet.specs.Kinds.{is-term}
-use Rattle.sheet.specs.Sound.{no-node}
+use Rattle.judging.specs.Nodes.{depth-at, term-at}
 use Rattle.sheet.specs.declared.form.Node.{Node}
-use Rattle.sheet.specs.declared.form.Claim.{Claim}
-use Rattle.sheet.specs.declared.form.Rule.{Rule}
-use Rattle.sheet.specs.declared.form.Rule.the-variants.{Plain, Conditional}
 use Rattle.sheet.specs.declared.form.Form.{Form}
 use Rattle.sheet.specs.declared.form.Form.the-variants.{Number, Station, Sum, Difference, Multiple, Quotient, Remainder, Between, AtLeast, AtMost, Channels, Union, Intersection, Complement, Shift}
-
--- the depth of node i
-abbrev pub depth-at : List Node → ℕ → ℕ
-depth-at nodes i = getD nodes i no-node .depth
-
--- whether node v is a term; the others are ranges
-abbrev pub term-at : List Node → ℕ → Bool
-term-at nodes v = is-term (getD nodes v no-node .form)
 
 -- node i names node v: an earlier one that is less deep, and a term or a range as is wanted
 pub record Names (term : Bool) (nodes : List Node) (i v : ℕ) : Type 0 where
@@ -39,31 +26,20 @@ pub record Divisor (k : ℤ) : Type 0 where
   pub some : 1 ≤ natAbs k
   pub few : natAbs k ≤ 64
 
--- what node i's form says of its parts: the nodes that it names, the station, and the size of its number
-abbrev pub Known : List Node → ℕ → Form → Type 0
-Known nodes i (Number k) = (natAbs k ≤ 1000) × (1000 ≤ bound (depth-at nodes i))
-Known nodes i (Station s) = (s < 32) × (1000 ≤ bound (depth-at nodes i))
-Known nodes i (Sum a b) = Names true nodes i a × Names true nodes i b
-Known nodes i (Difference a b) = Names true nodes i a × Names true nodes i b
-Known nodes i (Multiple k a) = (natAbs k ≤ 16) × Names true nodes i a
-Known nodes i (Quotient a k) = Divisor k × Names true nodes i a
-Known nodes i (Remainder a k) = Divisor k × Names true nodes i a
-Known nodes i (Between a b) = Names true nodes i a × Names true nodes i b
-Known nodes i (AtLeast a) = Names true nodes i a
-Known nodes i (AtMost a) = Names true nodes i a
-Known nodes i (Channels s) = s < 32
-Known nodes i (Union a b) = Names false nodes i a × Names false nodes i b
-Known nodes i (Intersection a b) = Names false nodes i a × Names false nodes i b
-Known nodes i (Complement a) = Names false nodes i a
-Known nodes i (Shift a b) = Names false nodes i a × Names true nodes i b
-
--- a claim names a station and a range that are there
-pub record Placed (stations : ℕ) (nodes : List Node) (c : Claim) : Type 0 where
-  pub station : c .station < stations
-  pub range : c .range < length nodes
-  pub sort : term-at nodes (c .range) ≡ false
-
--- so does each claim of a rule
-abbrev pub Placed-rule : ℕ → List Node → Rule → Type 0
-Placed-rule n nodes (Plain c) = Placed n nodes c
-Placed-rule n nodes (Conditional c d) = Placed n nodes c × Placed n nodes d
+-- what node i's form says of its parts, on a sheet of n stations: the nodes that it names, the station, and the size of its number
+abbrev pub Known : ℕ → List Node → ℕ → Form → Type 0
+Known n nodes i (Number k) = (natAbs k ≤ 1000) × (1000 ≤ bound (depth-at nodes i))
+Known n nodes i (Station s) = (s < n) × (s < 32) × (1000 ≤ bound (depth-at nodes i))
+Known n nodes i (Sum a b) = Names true nodes i a × Names true nodes i b
+Known n nodes i (Difference a b) = Names true nodes i a × Names true nodes i b
+Known n nodes i (Multiple k a) = (natAbs k ≤ 16) × Names true nodes i a
+Known n nodes i (Quotient a k) = Divisor k × Names true nodes i a
+Known n nodes i (Remainder a k) = Divisor k × Names true nodes i a
+Known n nodes i (Between a b) = Names true nodes i a × Names true nodes i b
+Known n nodes i (AtLeast a) = Names true nodes i a
+Known n nodes i (AtMost a) = Names true nodes i a
+Known n nodes i (Channels s) = (s < n) × (s < 32)
+Known n nodes i (Union a b) = Names false nodes i a × Names false nodes i b
+Known n nodes i (Intersection a b) = Names false nodes i a × Names false nodes i b
+Known n nodes i (Complement a) = Names false nodes i a
+Known n nodes i (Shift a b) = Names false nodes i a × Names true nodes i b

@@ -1,3 +1,7 @@
+pub mod Answers
 pub mod Bounds
+pub mod Judged
 pub mod Known
-pub mod Rules
+pub mod Laws
+pub mod Nodes
+pub mod Trees

@@ -1,29 +1,25 @@
 // Which whole numbers are possible in a range, and which are certain, over the channels that are left.
 ghost use Prim.Native.Nat.{_<_, _≤_, _+_, _*_, _^_};
-ghost use lib.Dec.{ltb};
-ghost use lib.IntN.{natAbs};
+ghost use lib.IntN.{natAbs, pos};
 ghost use lib.Signed.{leZ};
-ghost use mathlib.Core.Bool.{_&&_, false, not};
+ghost use mathlib.Core.Bool.{_&&_, false};
 ghost use mathlib.Core.Path.{_≡_};
-ghost use Rattle.judging.specs.Known.{depth-at, term-at};
-ghost use Rattle.std.specs.Options.{isSome};
+ghost use Rattle.judging.specs.Answers.{certain-among-on, certain-on, possible-among-on, possible-on};
+ghost use Rattle.judging.specs.Judged as judged;
+ghost use Rattle.judging.specs.Laws.{Judging-laws};
+ghost use Rattle.judging.specs.Nodes.{depth-at, has-range, range-of, term-at};
+ghost use Rattle.masks.specs.Sets as sets;
+ghost use Rattle.sheet.specs.Content.{content};
 ghost use Rattle.std.specs.Of.Vec.{vec-items, vec-len};
 use crate::known::form_at;
 use crate::terms::ends_at;
+use crate::terms::is_fixed;
 use crate::values::Domains;
 use crate::values::Ends;
+use masks::has;
+use masks::only;
 use sheet::Form;
 use sheet::Sheet;
-
-// Whether v is one of the channels of a set.
-pub(crate) fn one_of(word: u64, v: i64) -> bool {
-    0 <= v && v < 64 && (word >> v) & 1 == 1
-}
-
-// Whether v is the only channel of a set.
-fn only_one(word: u64, v: i64) -> bool {
-    0 <= v && v < 64 && word == 1 << v
-}
 
 // Whether v may lie between two terms.
 fn maybe_between(a: Ends, b: Ends, v: i64) -> bool
@@ -40,10 +36,11 @@ fn surely_between(a: Ends, b: Ends, v: i64) -> bool
 }
 
 // Whether v is possible in the range with number `node`.
-pub(crate) fn possible_at(sheet: &Sheet, domains: &Domains, node: usize, v: i64) -> bool
+fn possible_at(sheet: &Sheet, domains: &Domains, node: usize, v: i64) -> bool
     requires there { ⌜ node < vec-len (now sheet .nodes) ⌝ }
     requires sort { ⌜ term-at (vec-items (now sheet .nodes)) node ≡ false ⌝ }
     requires near { ⌜ natAbs v + depth-at (vec-items (now sheet .nodes)) node * 268435456000 ≤ 2 ^ 62 ⌝ }
+    ensures { λ r. ⌜ r ≡ judged.possible (now (domains .entry)) (range-of (vec-items (now (sheet .entry) .nodes)) node) v ⌝ }
 {
     match form_at(sheet, node) {
         Form::Between(a, b) => {
@@ -55,7 +52,7 @@ pub(crate) fn possible_at(sheet: &Sheet, domains: &Domains, node: usize, v: i64)
         }
         Form::AtLeast(a) => ends_at(sheet, domains, a as usize).least <= v,
         Form::AtMost(a) => v <= ends_at(sheet, domains, a as usize).greatest,
-        Form::Channels(s) => one_of(domains[s as usize], v),
+        Form::Channels(s) => has(domains[s as usize], v),
         Form::Union(a, b) => possible_at(sheet, domains, a as usize, v)
             || possible_at(sheet, domains, b as usize, v),
         Form::Intersection(a, b) => {
@@ -64,17 +61,18 @@ pub(crate) fn possible_at(sheet: &Sheet, domains: &Domains, node: usize, v: i64)
         Form::Complement(a) => !certain_at(sheet, domains, a as usize, v),
         Form::Shift(a, b) => {
             let by = ends_at(sheet, domains, b as usize);
-            by.least != by.greatest || possible_at(sheet, domains, a as usize, v - by.least)
+            !is_fixed(by) || possible_at(sheet, domains, a as usize, v - by.least)
         }
         _ => unreachable(),
     }
 }
 
 // Whether v is certain in the range with number `node`.
-pub(crate) fn certain_at(sheet: &Sheet, domains: &Domains, node: usize, v: i64) -> bool
+fn certain_at(sheet: &Sheet, domains: &Domains, node: usize, v: i64) -> bool
     requires there { ⌜ node < vec-len (now sheet .nodes) ⌝ }
     requires sort { ⌜ term-at (vec-items (now sheet .nodes)) node ≡ false ⌝ }
     requires near { ⌜ natAbs v + depth-at (vec-items (now sheet .nodes)) node * 268435456000 ≤ 2 ^ 62 ⌝ }
+    ensures { λ r. ⌜ r ≡ judged.certain (now (domains .entry)) (range-of (vec-items (now (sheet .entry) .nodes)) node) v ⌝ }
 {
     match form_at(sheet, node) {
         Form::Between(a, b) => {
@@ -86,7 +84,7 @@ pub(crate) fn certain_at(sheet: &Sheet, domains: &Domains, node: usize, v: i64) 
         }
         Form::AtLeast(a) => ends_at(sheet, domains, a as usize).greatest <= v,
         Form::AtMost(a) => v <= ends_at(sheet, domains, a as usize).least,
-        Form::Channels(s) => only_one(domains[s as usize], v),
+        Form::Channels(s) => only(domains[s as usize], v),
         Form::Union(a, b) => certain_at(sheet, domains, a as usize, v)
             || certain_at(sheet, domains, b as usize, v),
         Form::Intersection(a, b) => {
@@ -95,18 +93,26 @@ pub(crate) fn certain_at(sheet: &Sheet, domains: &Domains, node: usize, v: i64) 
         Form::Complement(a) => !possible_at(sheet, domains, a as usize, v),
         Form::Shift(a, b) => {
             let by = ends_at(sheet, domains, b as usize);
-            by.least == by.greatest && certain_at(sheet, domains, a as usize, v - by.least)
+            is_fixed(by) && certain_at(sheet, domains, a as usize, v - by.least)
         }
         _ => unreachable(),
     }
 }
 
+// Whether the sheet has a range with number `node`.
+fn is_range(sheet: &Sheet, node: usize) -> bool
+    ensures { λ r. ⌜ r ≡ has-range (vec-items (now (sheet .entry) .nodes)) node ⌝ }
+{
+    node < sheet.nodes.len() && !form_at(sheet, node).is_term()
+}
+
 // Whether v is possible in range `node`; nothing where the sheet has no such range.
 pub fn possible(sheet: &Sheet, domains: &Domains, node: u8, v: i32) -> Option<bool>
-    ensures { λ r. ⌜ isSome r ≡ (ltb node (vec-len (now (sheet .entry) .nodes)) && not (term-at (vec-items (now (sheet .entry) .nodes)) node)) ⌝ }
+    ensures value { λ r. ⌜ r ≡ possible-on (content (now (sheet .entry))) (now (domains .entry)) node v ⌝ }
+    ensures laws { λ r. ⌜ Judging-laws (content (now (sheet .entry))) ⌝ }
 {
     let node = node as usize;
-    if node < sheet.nodes.len() && !form_at(sheet, node).is_term() {
+    if is_range(sheet, node) {
         Some(possible_at(sheet, domains, node, i64::from(v)))
     } else {
         None
@@ -115,12 +121,67 @@ pub fn possible(sheet: &Sheet, domains: &Domains, node: u8, v: i32) -> Option<bo
 
 // Whether v is certain in range `node`; nothing where the sheet has no such range.
 pub fn certain(sheet: &Sheet, domains: &Domains, node: u8, v: i32) -> Option<bool>
-    ensures { λ r. ⌜ isSome r ≡ (ltb node (vec-len (now (sheet .entry) .nodes)) && not (term-at (vec-items (now (sheet .entry) .nodes)) node)) ⌝ }
+    ensures value { λ r. ⌜ r ≡ certain-on (content (now (sheet .entry))) (now (domains .entry)) node v ⌝ }
+    ensures laws { λ r. ⌜ Judging-laws (content (now (sheet .entry))) ⌝ }
 {
     let node = node as usize;
-    if node < sheet.nodes.len() && !form_at(sheet, node).is_term() {
+    if is_range(sheet, node) {
         Some(certain_at(sheet, domains, node, i64::from(v)))
     } else {
         None
     }
+}
+
+// Whether channel c of a set is possible in the range with number `node`.
+fn possible_channel(sheet: &Sheet, domains: &Domains, node: usize, word: u64, c: u32) -> bool
+    requires there { ⌜ node < vec-len (now sheet .nodes) ⌝ }
+    requires sort { ⌜ term-at (vec-items (now sheet .nodes)) node ≡ false ⌝ }
+    ensures { λ r. ⌜ r ≡ (sets.has word c && judged.possible (now (domains .entry)) (range-of (vec-items (now (sheet .entry) .nodes)) node) (pos c)) ⌝ }
+{
+    let v = i64::from(c);
+    has(word, v) && possible_at(sheet, domains, node, v)
+}
+
+// The channels of a set that are possible in range `node`; nothing where the sheet has no such range.
+pub fn possible_among(sheet: &Sheet, domains: &Domains, node: u8, word: u64) -> Option<u64>
+    ensures { λ r. ⌜ r ≡ possible-among-on (content (now (sheet .entry))) (now (domains .entry)) node word ⌝ }
+{
+    let node = node as usize;
+    if !is_range(sheet, node) {
+        return None;
+    }
+    let mut among = 0;
+    for c in 0..64u32 {
+        if possible_channel(sheet, domains, node, word, c) {
+            among |= 1 << c;
+        }
+    }
+    Some(among)
+}
+
+// Whether channel c of a set is certain in the range with number `node`.
+fn certain_channel(sheet: &Sheet, domains: &Domains, node: usize, word: u64, c: u32) -> bool
+    requires there { ⌜ node < vec-len (now sheet .nodes) ⌝ }
+    requires sort { ⌜ term-at (vec-items (now sheet .nodes)) node ≡ false ⌝ }
+    ensures { λ r. ⌜ r ≡ (sets.has word c && judged.certain (now (domains .entry)) (range-of (vec-items (now (sheet .entry) .nodes)) node) (pos c)) ⌝ }
+{
+    let v = i64::from(c);
+    has(word, v) && certain_at(sheet, domains, node, v)
+}
+
+// The channels of a set that are certain in range `node`; nothing where the sheet has no such range.
+pub fn certain_among(sheet: &Sheet, domains: &Domains, node: u8, word: u64) -> Option<u64>
+    ensures { λ r. ⌜ r ≡ certain-among-on (content (now (sheet .entry))) (now (domains .entry)) node word ⌝ }
+{
+    let node = node as usize;
+    if !is_range(sheet, node) {
+        return None;
+    }
+    let mut among = 0;
+    for c in 0..64u32 {
+        if certain_channel(sheet, domains, node, word, c) {
+            among |= 1 << c;
+        }
+    }
+    Some(among)
 }

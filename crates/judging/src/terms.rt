@@ -1,24 +1,30 @@
 // The least and the greatest value of a term, over the channels that are left.
-ghost use Prim.Native.Nat.{ℕ, _<_, _≤_, _-_, _*_};
-ghost use lib.Count.{leadingZeros, trailingZeros};
+ghost use Prim.Native.Nat.{ℕ, _<_, _≤_, _*_};
 ghost use lib.IntN.{pos, natAbs, _+ℤ_, _-ℤ_, _*ℤ_};
 ghost use lib.Signed.{ltZ};
-ghost use lib.Dec.{ltb};
-ghost use mathlib.Core.Bool.{_&&_, cond, true};
+ghost use mathlib.Core.Bool.{cond, true};
 ghost use mathlib.Core.Path.{_≡_};
+ghost use Rattle.judging.specs.Answers.{ends-on};
 ghost use Rattle.judging.specs.Bounds.{bound, Bounded, Sixteenth};
-ghost use Rattle.judging.specs.Known.{depth-at, term-at, Divisor};
+ghost use Rattle.judging.specs.Judged as judged;
+ghost use Rattle.judging.specs.Known.{Divisor};
+ghost use Rattle.judging.specs.Laws.{Judging-laws};
+ghost use Rattle.judging.specs.Nodes.{depth-at, has-term, term-at, term-of};
+ghost use Rattle.masks.specs.Sets.{channels, lowest, highest};
+ghost use Rattle.sheet.specs.Content.{content};
 ghost use Rattle.std.specs.Numbers.{divEuclid, remEuclid};
-ghost use Rattle.std.specs.Options.{isSome};
+ghost use Rattle.std.specs.Slices.{found};
 ghost use Rattle.std.specs.Of.Vec.{vec-items, vec-len};
 use crate::known::form_at;
 use crate::values::Domains;
 use crate::values::Ends;
+use masks::highest_in;
+use masks::lowest_in;
 use sheet::Form;
 use sheet::Sheet;
 
 // A number is both of its ends.
-fn fixed(k: i64) -> Ends
+fn only(k: i64) -> Ends
     ensures least { λ r. ⌜ r .least ≡ k ⌝ }
     ensures greatest { λ r. ⌜ r .greatest ≡ k ⌝ }
 {
@@ -28,15 +34,16 @@ fn fixed(k: i64) -> Ends
     }
 }
 
-// The lowest and the highest channel of a set; 64 and 0 where it is empty.
+// The lowest and the highest channel of a set.
 fn channel_ends(word: u64) -> Ends
-    ensures least { λ r. ⌜ r .least ≡ pos (trailingZeros 64 word) ⌝ }
-    ensures greatest { λ r. ⌜ r .greatest ≡ pos (63 - leadingZeros 64 word) ⌝ }
+    ensures least { λ r. ⌜ r .least ≡ pos (lowest channels word) ⌝ }
+    ensures greatest { λ r. ⌜ r .greatest ≡ pos (highest channels word) ⌝ }
     ensures within { λ r. ⌜ Bounded 64 r ⌝ }
 {
-    let least = i64::from(word.trailing_zeros());
-    let greatest = i64::from(63u32.saturating_sub(word.leading_zeros()));
-    Ends { least, greatest }
+    Ends {
+        least: i64::from(lowest_in(word)),
+        greatest: i64::from(highest_in(word)),
+    }
 }
 
 // Both ends are added.
@@ -107,15 +114,22 @@ fn quotient_ends(a: Ends, k: i64) -> Ends
     }
 }
 
-// A remainder is known where its term is; otherwise it lies between 0 and k - 1.
+// Whether a term has one value.
+pub(crate) fn is_fixed(a: Ends) -> bool
+    ensures { λ r. ⌜ r ≡ judged.same (a .least) (a .greatest) ⌝ }
+{
+    a.least == a.greatest
+}
+
+// A remainder is known where its term has one value; otherwise it lies between 0 and k - 1.
 fn remainder_ends(a: Ends, k: i64) -> Ends
     requires { ⌜ Divisor k ⌝ }
-    ensures known { λ r. ⌜ (a .least ≡ a .greatest → (r .least ≡ remEuclid (a .least) k) × (r .greatest ≡ remEuclid (a .least) k)) ⌝ }
-    ensures unknown { λ r. ⌜ ((a .least ≡ a .greatest → ⊥) → (r .least ≡ pos 0) × (r .greatest ≡ k -ℤ pos 1)) ⌝ }
+    ensures least { λ r. ⌜ r .least ≡ cond (judged.same (a .least) (a .greatest)) (remEuclid (a .least) k) (pos 0) ⌝ }
+    ensures greatest { λ r. ⌜ r .greatest ≡ cond (judged.same (a .least) (a .greatest)) (remEuclid (a .least) k) (k -ℤ pos 1) ⌝ }
     ensures within { λ r. ⌜ Bounded 64 r ⌝ }
 {
-    if a.least == a.greatest {
-        fixed(a.least.rem_euclid(k))
+    if is_fixed(a) {
+        only(a.least.rem_euclid(k))
     } else {
         Ends {
             least: 0,
@@ -128,10 +142,12 @@ fn remainder_ends(a: Ends, k: i64) -> Ends
 pub(crate) fn ends_at(sheet: &Sheet, domains: &Domains, node: usize) -> Ends
     requires there { ⌜ node < vec-len (now sheet .nodes) ⌝ }
     requires sort { ⌜ term-at (vec-items (now sheet .nodes)) node ≡ true ⌝ }
-    ensures { λ r. ⌜ Bounded (bound (depth-at (vec-items (now (sheet .entry) .nodes)) node)) r ⌝ }
+    ensures least { λ r. ⌜ r .least ≡ judged.least (now (domains .entry)) (term-of (vec-items (now (sheet .entry) .nodes)) node) ⌝ }
+    ensures greatest { λ r. ⌜ r .greatest ≡ judged.greatest (now (domains .entry)) (term-of (vec-items (now (sheet .entry) .nodes)) node) ⌝ }
+    ensures within { λ r. ⌜ Bounded (bound (depth-at (vec-items (now (sheet .entry) .nodes)) node)) r ⌝ }
 {
     match form_at(sheet, node) {
-        Form::Number(k) => fixed(i64::from(k)),
+        Form::Number(k) => only(i64::from(k)),
         Form::Station(s) => channel_ends(domains[s as usize]),
         Form::Sum(a, b) => sum_ends(
             ends_at(sheet, domains, a as usize),
@@ -148,12 +164,21 @@ pub(crate) fn ends_at(sheet: &Sheet, domains: &Domains, node: usize) -> Ends
     }
 }
 
+// Whether the sheet has a term with number `node`.
+fn is_term(sheet: &Sheet, node: usize) -> bool
+    ensures { λ r. ⌜ r ≡ has-term (vec-items (now (sheet .entry) .nodes)) node ⌝ }
+{
+    node < sheet.nodes.len() && form_at(sheet, node).is_term()
+}
+
 // The ends of node `node`; nothing where the sheet has no such term.
 pub fn ends(sheet: &Sheet, domains: &Domains, node: u8) -> Option<Ends>
-    ensures { λ r. ⌜ isSome r ≡ (ltb node (vec-len (now (sheet .entry) .nodes)) && term-at (vec-items (now (sheet .entry) .nodes)) node) ⌝ }
+    ensures value { λ r. ⌜ r ≡ ends-on (content (now (sheet .entry))) (now (domains .entry)) node ⌝ }
+    ensures bounded { λ r. ⌜ found r (Bounded 268435456000) ⌝ }
+    ensures laws { λ r. ⌜ Judging-laws (content (now (sheet .entry))) ⌝ }
 {
     let node = node as usize;
-    if node < sheet.nodes.len() && form_at(sheet, node).is_term() {
+    if is_term(sheet, node) {
         Some(ends_at(sheet, domains, node))
     } else {
         None

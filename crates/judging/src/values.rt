@@ -1,4 +1,4 @@
-// What nodes and rules are judged on, and what the judging answers.
+// What nodes are judged on, and what the judging of a term answers.
 
 // The channels of each station: bit c of entry s is set where station s may use channel c. The entries past the sheet's stations are 0.
 pub type Domains = [u64; 32];
@@ -8,19 +8,4 @@ pub type Domains = [u64; 32];
 pub struct Ends {
     pub least: i64,
     pub greatest: i64,
-}
-
-// What given channels say of a claim or a rule: it is sure to hold, it cannot hold, or neither is known.
-#[derive(Clone, Copy, Debug, PartialEq, Eq)]
-pub enum Verdict {
-    Sure,
-    Open,
-    Broken,
-}
-
-// A station and the channels that a rule leaves it.
-#[derive(Clone, Copy, Debug, PartialEq, Eq)]
-pub struct Narrowed {
-    pub station: u8,
-    pub channels: u64,
 }

@@ -4,18 +4,18 @@ use crate::sheets::sheet_of;
 use judging::Ends;
 use judging::EndsDebug;
 use judging::EndsPartialEq;
-use judging::Narrowed;
-use judging::NarrowedDebug;
-use judging::NarrowedPartialEq;
 use judging::certain;
 use judging::ends;
-use judging::left;
 use judging::possible;
 use sheet_tests::Row;
 use sheet_tests::Row::Nd;
 use sheet_tests::Row::Ru;
 use sheet_tests::Row::St;
 use std::test::*;
+use verdicts::Narrowed;
+use verdicts::NarrowedDebug;
+use verdicts::NarrowedPartialEq;
+use verdicts::left;
 
 static ROWS: [Row; 22] = [
     St(10),

@@ -1,19 +1,19 @@
 // Verdicts in a sheet's own channels, before anything is settled: no report can show a broken rule, since it leaves nothing settled.
 use crate::sheets::channels_of;
 use crate::sheets::sheet_of;
-use judging::Verdict;
-use judging::Verdict::Broken;
-use judging::Verdict::Open;
-use judging::Verdict::Sure;
-use judging::VerdictDebug;
-use judging::VerdictPartialEq;
-use judging::verdict;
 use sheet_tests::Row;
 use sheet_tests::Row::Nd;
 use sheet_tests::Row::Ru;
 use sheet_tests::Row::St;
 use std::alloc::Global;
 use std::test::*;
+use verdicts::Verdict;
+use verdicts::Verdict::Broken;
+use verdicts::Verdict::Open;
+use verdicts::Verdict::Sure;
+use verdicts::VerdictDebug;
+use verdicts::VerdictPartialEq;
+use verdicts::verdict;
 
 // The verdict on a rule of some rows, in the channels that they give their stations.
 fn verdict_of(heap: Global, rows: &[Row], rule: usize) -> Result<Option<Verdict>, Fail> {

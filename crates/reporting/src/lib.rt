@@ -13,7 +13,6 @@ use crate::lines::RuleLineDisplay;
 use crate::lines::StationLineDisplay;
 use faults::SheetFault;
 use judging::Domains;
-use judging::verdict;
 use lines::Counts;
 use lines::PlanLine;
 use lines::Refusal;
@@ -27,6 +26,7 @@ use sheet::Sheet;
 use std::alloc::AllocError;
 use std::alloc::Global;
 use std::fmt::Display;
+use verdicts::verdict;
 
 // How many bytes of the input count.
 pub const LIMIT: usize = 4096;

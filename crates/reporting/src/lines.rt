@@ -3,8 +3,8 @@ use faults::Layer;
 use faults::Place;
 use faults::Told;
 use judging::Domains;
-use judging::Verdict;
 use std::fmt;
+use verdicts::Verdict;
 
 // `refused 2 layer bytes record 0 byte 0`
 #[derive(Clone, Copy)]

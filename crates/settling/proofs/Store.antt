@@ -1,22 +1,17 @@
--- The order of stores, and that a smaller one has a smaller sum.
+-- Narrowing one station, narrowing again and again, and that a smaller store has a smaller sum.
 use Prim.Native.Nat.{ℕ, zero, suc, _+_, _≤_, _<_}
 use native.Mathlib.Omega.{arith}
-use lib.Bits.{bitAnd, and-self, and-le-r}
 use lib.ListN.{length, length-set, getD, set}
 use lib.Seq.{getD-set-same, getD-set-other}
 use mathlib.Core.List.{List, [], _∷_}
 use mathlib.Core.Logic.{⊎-elim, _⊎_, inl, inr}
 use mathlib.Core.Path.{_≡_, refl, sym, ap, ap₂, subst, _∙_}
 use Rattle.std.proofs.shelf.Tests.{cases-eq}
-use Rattle.judging.proofs.Bits.{and-assoc}
-use Rattle.settling.specs.Store.{Inside, Filled, Narrows, total}
-
-pub inside-self : (D : List ℕ) → Inside D D
-inside-self D s = and-self (getD D s 0)
-
-pub inside-through : (C D E : List ℕ) → Inside C D → Inside D E → Inside C E
-inside-through C D E p q s =
-    ap (λ (x : ℕ). bitAnd x (getD E s 0)) (sym (p s)) ∙ and-assoc (getD C s 0) (getD D s 0) (getD E s 0) ∙ ap (bitAnd (getD C s 0)) (q s) ∙ p s
+use Rattle.masks.proofs.Sets.{subset-le}
+use Rattle.masks.proofs.Tables.{inside-self, inside-through}
+use Rattle.masks.specs.Sets.{Subset, Some-channels}
+use Rattle.masks.specs.Tables.{at, Inside, Store}
+use Rattle.settling.specs.Store.{Narrows, total}
 
 -- what holds of a changed place and of the others holds of each
 by-place : (P : ℕ → ℕ → Type 0) (D : List ℕ) (s w : ℕ) → s < length D → P s w → ((t : ℕ) → P t (getD D t 0)) → (t : ℕ) → P t (getD (set D s w) t 0)
@@ -25,12 +20,12 @@ by-place P D s w h p q t =
     (λ ne. subst (P t) (sym (getD-set-other D s t w 0 ne)) (q t)) (cases-eq t s)
 
 -- one station's set becomes a part of what it was, and not empty
-pub narrows-one : (n : ℕ) (D : List ℕ) (s w : ℕ) → s < length D → bitAnd w (getD D s 0) ≡ w → 0 < w → Narrows n D (set D s w)
+pub narrows-one : (n : ℕ) (D : List ℕ) (s w : ℕ) → s < length D → Subset w (at D s) → Some-channels w → Narrows n D (set D s w)
 narrows-one n D s w h part some =
     record {
       long = length-set D s w;
-      inside = by-place (λ (t x : ℕ). bitAnd x (getD D t 0) ≡ x) D s w h part (inside-self D);
-      filled = λ f. by-place (λ (t x : ℕ). t < n → 0 < x) D s w h (λ _. some) f;
+      inside = by-place (λ (t x : ℕ). Subset x (at D t)) D s w h part (inside-self D);
+      filled = λ f. by-place (λ (t x : ℕ). t < n → Some-channels x) D s w h (λ _. some) f;
     }
 
 pub narrows-self : (n : ℕ) (D : List ℕ) → Narrows n D D
@@ -58,4 +53,4 @@ total-lt (x ∷ xs) (y ∷ ys) l h ne =
 
 -- a store inside another that is not the same has a smaller sum
 pub total-falls : (D E : List ℕ) → length D ≡ length E → Inside E D → (E ≡ D → ⊥) → total E < total D
-total-falls D E l i ne = total-lt D E l (λ s. subst (λ (x : ℕ). x ≤ getD D s 0) (i s) (and-le-r (getD E s 0) (getD D s 0))) ne
+total-falls D E l i ne = total-lt D E l (λ s. subset-le (at E s) (at D s) (i s)) ne

@@ -1,12 +1,13 @@
 // Settling: the rules narrow the channels until no rule narrows them further.
 ghost use Prim.Native.Nat.{_<_};
 ghost use lib.Dec.{T};
-ghost use Rattle.settling.specs.Store.{Filled, Inside, Narrows};
+ghost use Rattle.masks.specs.Tables.{Inside, Store};
+ghost use Rattle.settling.specs.Store.{Narrows};
 ghost use Rattle.std.specs.Of.Vec.{vec-len};
 ghost use Rattle.std.specs.Slices.{found};
 use judging::Domains;
-use judging::left;
 use sheet::Sheet;
+use verdicts::left;
 
 // The channels after rule `rule` has narrowed them; nothing where it leaves its station none.
 fn narrow(sheet: &Sheet, mut domains: Domains, rule: usize) -> Option<Domains>
@@ -34,7 +35,7 @@ fn pass(sheet: &Sheet, domains: Domains) -> Option<Domains>
 
 // Whether each station of the sheet has a channel.
 fn filled(sheet: &Sheet, domains: &Domains) -> bool
-    ensures { λ r. ⌜ (T r → Filled (vec-len (now (sheet .entry) .stations)) (now (domains .entry))) ⌝ }
+    ensures { λ r. ⌜ (T r → Store (vec-len (now (sheet .entry) .stations)) (now (domains .entry))) ⌝ }
 {
     for s in 0..sheet.stations.len() {
         if domains[s] == 0 {
@@ -47,7 +48,7 @@ fn filled(sheet: &Sheet, domains: &Domains) -> bool
 // The channels that are left when no rule narrows them any more; nothing where a station has none left.
 pub fn settle(sheet: &Sheet, domains: Domains) -> Option<Domains>
     ensures inside { λ r. ⌜ found r (λ after. Inside after domains) ⌝ }
-    ensures filled { λ r. ⌜ found r (Filled (vec-len (now (sheet .entry) .stations))) ⌝ }
+    ensures filled { λ r. ⌜ found r (Store (vec-len (now (sheet .entry) .stations))) ⌝ }
 {
     if !filled(sheet, &domains) {
         return None;

@@ -1,18 +1,18 @@
 use Prim.Native.Nat.{ℕ, suc, _*_, _%_, _^_, _<_}
 use native.Mathlib.Omega.{arith}
 use borrow.Author.Needs.{needs}
-use lib.Bits.{and-mask}
 use lib.ListN.{length, set}
-use mathlib.Core.Path.{_≡_, sym, subst, _∙_}
+use mathlib.Core.Bool.{true}
+use mathlib.Core.Path.{_≡_, subst}
 use Rattle.std.proofs.shelf.Bits.{one-shl}
-use Rattle.settling.specs.Store.{Inside}
-use Rattle.search.specs.Plan.{Fixed}
-use Rattle.search.proofs.Cuts.{picks-self, picks-through, cut-inside, fixed-inside, fixed-more}
+use Rattle.masks.specs.Sets.{has}
+use Rattle.masks.specs.Tables.{at, Inside, Fixed}
+use Rattle.search.proofs.Cuts.{choice-self, choice-through, cut-inside, fixed-inside, fixed-more}
 use Rattle.search.proofs.+plan_from.Needs as need
 use Rattle.search.proofs.+plan_from.Needs.{In-Some}
 
 pub returns-then-station-len : need.returns-then-station-len
-returns-then-station-len t c = picks-self _ (c .args .station) _ (omega arith) (c .pre .fixed)
+returns-then-station-len t c = choice-self _ (c .args .station) _ (omega arith) (c .pre .fixed)
 
 within : (t : ℕ) (c : In-Some t) → c .args .station < length (c .args .domains)
 within t c = search needs
@@ -27,12 +27,13 @@ pub plan-from-requires : need.plan-from-requires
 plan-from-requires t c κs =
     let f : Fixed (suc (c .args .station)) (c .in-Some .settled) =
     fixed-inside _ _ (c .in-Some .settled) (settled-cut t c) (λ s h. c .in-Some .ensures tt .filled s (omega arith))
-    (fixed-more (c .args .station) (c .args .domains) (c .loop-c .c) (within t c) (c .pre .fixed)) in
+    (fixed-more (c .args .station) (c .args .domains) (c .loop-c .c) (within t c) (omega arith) (c .pre .fixed)) in
     (omega arith, (omega arith, λ s h. f s (omega arith)))
 
 pub returns-in-Some-plan-from : need.returns-in-Some-plan-from
 returns-in-Some-plan-from t c =
     let d = need.at·returns-in-Some-plan-from t c .In-Some in
-    picks-through (c .args .sheet .now .stations .len) (c .args .domains) (c .in-Some .settled) (c .in-Some-plan-from .plan)
-    (cut-inside (c .args .domains) (c .in-Some .settled) (c .args .station) (c .loop-c .c) (within t d) (sym (and-mask _ 1) ∙ c .if-domains-station-eq1 .taken) (settled-cut t d))
+    let e : has (at (c .args .domains) (c .args .station)) (c .loop-c .c) ≡ true = search needs in
+    choice-through (c .args .sheet .now .stations .len) (c .args .domains) (c .in-Some .settled) (c .in-Some-plan-from .plan)
+    (cut-inside (c .args .domains) (c .in-Some .settled) (c .args .station) (c .loop-c .c) (within t d) (omega arith) e (settled-cut t d))
     (c .in-Some-plan-from .ensures tt)

@@ -1,7 +1,8 @@
 use mathlib.Core.Path.{sym}
 use Rattle.std.proofs.shelf.Equals.{matches-decides}
 use Rattle.std.proofs.shelf.Tests.{both-ways}
-use Rattle.settling.proofs.Store.{inside-self, inside-through, total-falls}
+use Rattle.masks.proofs.Tables.{inside-self, inside-through}
+use Rattle.settling.proofs.Store.{total-falls}
 use Rattle.settling.proofs.settle.Needs as need
 
 pub loop-after-holds : need.loop-after-holds

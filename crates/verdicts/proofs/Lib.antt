@@ -1,0 +1,4 @@
+pub mod Claims
+pub mod Leaves
+pub mod Placed
+pub mod RuleLaws
