@@ -1,17 +1,18 @@
 -- Products, quotients and remainders keep the order of whole numbers, or turn it round.
 use Prim.Native.Nat.{ℕ, zero, suc, _+_, _-_, _*_, _/_, _%_, _≤_, _<_}
-use native.Mathlib.Nat.{le-refl, mod-lt, div-mul-le-self}
+use native.Mathlib.Nat.{le-refl, mod-lt, div-mul-le-self, div-add-mod', mul-comm, suc-mul}
 use native.Mathlib.Omega.{arith}
 use borrow.Author.Differences.{ints}
 use lib.Dec.{T}
 use lib.IntN.{ℤ, pos, negsuc, natAbs, _+ℤ_, _-ℤ_, _*ℤ_}
 use lib.Signed.{leZ, ltZ, _≤ℤ_, _<ℤ_}
 use mathlib.Core.Bool.{Bool, true, false, _&&_}
-use mathlib.Core.Path.{_≡_, refl, ap, ap₂}
+use mathlib.Core.Path.{_≡_, refl, _∙_}
 use Rattle.std.proofs.shelf.Bits.{mul-le, le-div}
 use Rattle.std.proofs.shelf.Tests.{and-from, and-parts}
 use Rattle.std.specs.Numbers.{divEuclid, remEuclid}
 use Rattle.judging.specs.Judged.{same}
+use Rattle.judging.specs.Laws.{Division}
 
 -- a test of order, and the order
 pub le-yes : (x y : ℤ) → leZ x y ≡ true → x ≤ℤ y
@@ -69,3 +70,16 @@ remainder-low (negsuc a) k = omega (arith, ints)
 pub remainder-high : (x : ℤ) (k : ℕ) → 1 ≤ k → remEuclid x (pos k) ≤ℤ (pos k -ℤ pos 1)
 remainder-high (pos a) k h = let p : a % k < k = mod-lt a h in omega (arith, ints)
 remainder-high (negsuc a) k h = omega (arith, ints)
+
+-- a number is k times its quotient, and its remainder over
+pub division : (x : ℤ) (k : ℕ) → 1 ≤ k → Division x k
+division (pos a) k h =
+    let p : a / k * k + a % k ≡ a = div-add-mod' a k in
+    let q : k * (a / k) ≡ a / k * k = mul-comm k (a / k) in
+    let r : a % k < k = mod-lt a h in
+    record { sum = omega (arith, ints); low = omega (arith, ints); high = omega (arith, ints) }
+division (negsuc a) k h =
+    let p : a / k * k + a % k ≡ a = div-add-mod' a k in
+    let q : k * suc (a / k) ≡ a / k * k + k = mul-comm k (suc (a / k)) ∙ suc-mul (a / k) k in
+    let r : a % k < k = mod-lt a h in
+    record { sum = omega (arith, ints); low = omega (arith, ints); high = omega (arith, ints) }

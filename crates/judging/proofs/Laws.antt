@@ -8,7 +8,9 @@ use Rattle.sheet.specs.Content.{Content, Valid}
 use Rattle.sheet.specs.declared.form.Node.{Node}
 use Rattle.std.proofs.shelf.Tests.{and-parts, ltb-true}
 use Rattle.judging.specs.Laws.{Judging-laws}
-use Rattle.judging.proofs.Nodes.{known}
+use Rattle.judging.proofs.Ints.{division}
+use Rattle.judging.proofs.Limits.{term-limit}
+use Rattle.judging.proofs.Nodes.{known, bounded-depth}
 use Rattle.judging.proofs.RangeLaws.{range-laws}
 use Rattle.judging.proofs.TermLaws.{term-laws}
 use Rattle.judging.proofs.Trees.{term-over, range-over}
@@ -20,4 +22,6 @@ judging-laws s v =
     record {
       terms = λ i e. term-laws _ _ (term-over _ _ k i (there i _ e));
       ranges = λ i e. range-laws _ _ (range-over _ _ k i (there i _ e));
+      bounded = λ i e D. term-limit _ _ k D i (there i _ e) (bounded-depth _ _ (v .nodes-sound) i (there i _ e));
+      division = division;
     }

@@ -3,6 +3,7 @@ pub mod Answered
 pub mod Bounds
 pub mod Ints
 pub mod Laws
+pub mod Limits
 pub mod Nodes
 pub mod RangeLaws
 pub mod Shifts

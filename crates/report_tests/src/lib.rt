@@ -6,7 +6,11 @@ mod refused;
 #[cfg(test)]
 mod reports;
 #[cfg(test)]
+mod sets;
+#[cfg(test)]
 mod sheets;
+#[cfg(test)]
+mod signs;
 #[cfg(test)]
 mod verdicts;
 #[cfg(test)]
