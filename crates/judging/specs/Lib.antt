@@ -1,4 +1,5 @@
 pub mod Answers
+pub mod Asked
 pub mod Bounds
 pub mod Judged
 pub mod Known

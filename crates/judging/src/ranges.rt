@@ -5,6 +5,7 @@ ghost use lib.Signed.{leZ};
 ghost use mathlib.Core.Bool.{_&&_, false};
 ghost use mathlib.Core.Path.{_≡_};
 ghost use Rattle.judging.specs.Answers.{certain-among-on, certain-on, possible-among-on, possible-on};
+ghost use Rattle.judging.specs.Asked.{among-on, answer-on, asked};
 ghost use Rattle.judging.specs.Judged as judged;
 ghost use Rattle.judging.specs.Laws.{Judging-laws};
 ghost use Rattle.judging.specs.Nodes.{depth-at, has-range, range-of, term-at};
@@ -16,6 +17,7 @@ use crate::terms::ends_at;
 use crate::terms::is_fixed;
 use crate::values::Domains;
 use crate::values::Ends;
+use crate::values::Question;
 use masks::has;
 use masks::only;
 use sheet::Form;
@@ -106,17 +108,38 @@ fn is_range(sheet: &Sheet, node: usize) -> bool
     node < sheet.nodes.len() && !form_at(sheet, node).is_term()
 }
 
+// Whether v is possible or certain, as asked, in the range with number `node`.
+fn asked_at(sheet: &Sheet, domains: &Domains, node: usize, question: Question, v: i64) -> bool
+    requires there { ⌜ node < vec-len (now sheet .nodes) ⌝ }
+    requires sort { ⌜ term-at (vec-items (now sheet .nodes)) node ≡ false ⌝ }
+    requires near { ⌜ natAbs v + depth-at (vec-items (now sheet .nodes)) node * 268435456000 ≤ 2 ^ 62 ⌝ }
+    ensures { λ r. ⌜ r ≡ asked question (now (domains .entry)) (range-of (vec-items (now (sheet .entry) .nodes)) node) v ⌝ }
+{
+    match question {
+        Question::Possible => possible_at(sheet, domains, node, v),
+        Question::Certain => certain_at(sheet, domains, node, v),
+    }
+}
+
+// The answer for one number; nothing where the sheet has no such range.
+fn answer(sheet: &Sheet, domains: &Domains, node: u8, question: Question, v: i32) -> Option<bool>
+    ensures value { λ r. ⌜ r ≡ answer-on question (content (now (sheet .entry))) (now (domains .entry)) node v ⌝ }
+    ensures laws { λ r. ⌜ Judging-laws (content (now (sheet .entry))) ⌝ }
+{
+    let node = node as usize;
+    if is_range(sheet, node) {
+        Some(asked_at(sheet, domains, node, question, i64::from(v)))
+    } else {
+        None
+    }
+}
+
 // Whether v is possible in range `node`; nothing where the sheet has no such range.
 pub fn possible(sheet: &Sheet, domains: &Domains, node: u8, v: i32) -> Option<bool>
     ensures value { λ r. ⌜ r ≡ possible-on (content (now (sheet .entry))) (now (domains .entry)) node v ⌝ }
     ensures laws { λ r. ⌜ Judging-laws (content (now (sheet .entry))) ⌝ }
 {
-    let node = node as usize;
-    if is_range(sheet, node) {
-        Some(possible_at(sheet, domains, node, i64::from(v)))
-    } else {
-        None
-    }
+    answer(sheet, domains, node, Question::Possible, v)
 }
 
 // Whether v is certain in range `node`; nothing where the sheet has no such range.
@@ -124,64 +147,53 @@ pub fn certain(sheet: &Sheet, domains: &Domains, node: u8, v: i32) -> Option<boo
     ensures value { λ r. ⌜ r ≡ certain-on (content (now (sheet .entry))) (now (domains .entry)) node v ⌝ }
     ensures laws { λ r. ⌜ Judging-laws (content (now (sheet .entry))) ⌝ }
 {
-    let node = node as usize;
-    if is_range(sheet, node) {
-        Some(certain_at(sheet, domains, node, i64::from(v)))
-    } else {
-        None
-    }
+    answer(sheet, domains, node, Question::Certain, v)
 }
 
-// Whether channel c of a set is possible in the range with number `node`.
-fn possible_channel(sheet: &Sheet, domains: &Domains, node: usize, word: u64, c: u32) -> bool
+// Whether channel c is in a set and the answer for it is yes.
+fn passes(
+    sheet: &Sheet,
+    domains: &Domains,
+    node: usize,
+    question: Question,
+    word: u64,
+    c: u32,
+) -> bool
     requires there { ⌜ node < vec-len (now sheet .nodes) ⌝ }
     requires sort { ⌜ term-at (vec-items (now sheet .nodes)) node ≡ false ⌝ }
-    ensures { λ r. ⌜ r ≡ (sets.has word c && judged.possible (now (domains .entry)) (range-of (vec-items (now (sheet .entry) .nodes)) node) (pos c)) ⌝ }
+    ensures { λ r. ⌜ r ≡ (sets.has word c && asked question (now (domains .entry)) (range-of (vec-items (now (sheet .entry) .nodes)) node) (pos c)) ⌝ }
 {
     let v = i64::from(c);
-    has(word, v) && possible_at(sheet, domains, node, v)
+    has(word, v) && asked_at(sheet, domains, node, question, v)
+}
+
+// The channels of a set for which the answer is yes; nothing where the sheet has no such range.
+fn among(sheet: &Sheet, domains: &Domains, node: u8, question: Question, word: u64) -> Option<u64>
+    ensures { λ r. ⌜ r ≡ among-on question (content (now (sheet .entry))) (now (domains .entry)) node word ⌝ }
+{
+    let node = node as usize;
+    if !is_range(sheet, node) {
+        return None;
+    }
+    let mut passing = 0;
+    for c in 0..64u32 {
+        if passes(sheet, domains, node, question, word, c) {
+            passing |= 1 << c;
+        }
+    }
+    Some(passing)
 }
 
 // The channels of a set that are possible in range `node`; nothing where the sheet has no such range.
 pub fn possible_among(sheet: &Sheet, domains: &Domains, node: u8, word: u64) -> Option<u64>
     ensures { λ r. ⌜ r ≡ possible-among-on (content (now (sheet .entry))) (now (domains .entry)) node word ⌝ }
 {
-    let node = node as usize;
-    if !is_range(sheet, node) {
-        return None;
-    }
-    let mut among = 0;
-    for c in 0..64u32 {
-        if possible_channel(sheet, domains, node, word, c) {
-            among |= 1 << c;
-        }
-    }
-    Some(among)
-}
-
-// Whether channel c of a set is certain in the range with number `node`.
-fn certain_channel(sheet: &Sheet, domains: &Domains, node: usize, word: u64, c: u32) -> bool
-    requires there { ⌜ node < vec-len (now sheet .nodes) ⌝ }
-    requires sort { ⌜ term-at (vec-items (now sheet .nodes)) node ≡ false ⌝ }
-    ensures { λ r. ⌜ r ≡ (sets.has word c && judged.certain (now (domains .entry)) (range-of (vec-items (now (sheet .entry) .nodes)) node) (pos c)) ⌝ }
-{
-    let v = i64::from(c);
-    has(word, v) && certain_at(sheet, domains, node, v)
+    among(sheet, domains, node, Question::Possible, word)
 }
 
 // The channels of a set that are certain in range `node`; nothing where the sheet has no such range.
 pub fn certain_among(sheet: &Sheet, domains: &Domains, node: u8, word: u64) -> Option<u64>
     ensures { λ r. ⌜ r ≡ certain-among-on (content (now (sheet .entry))) (now (domains .entry)) node word ⌝ }
 {
-    let node = node as usize;
-    if !is_range(sheet, node) {
-        return None;
-    }
-    let mut among = 0;
-    for c in 0..64u32 {
-        if certain_channel(sheet, domains, node, word, c) {
-            among |= 1 << c;
-        }
-    }
-    Some(among)
+    among(sheet, domains, node, Question::Certain, word)
 }

@@ -9,3 +9,10 @@ pub struct Ends {
     pub least: i64,
     pub greatest: i64,
 }
+
+// What is asked of a number and a range.
+#[derive(Clone, Copy)]
+pub(crate) enum Question {
+    Possible,
+    Certain,
+}

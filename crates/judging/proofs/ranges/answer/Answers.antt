@@ -1,7 +1,7 @@
 use borrow.Author.Needs.{needs}
 use Rattle.judging.proofs.Answered.{answered}
 use Rattle.judging.proofs.Laws.{judging-laws}
-use Rattle.judging.proofs.ranges.certain.Needs as need
+use Rattle.judging.proofs.ranges.answer.Needs as need
 use Rattle.sheet.proofs.Types.{valid}
 
 pub returns-then-is-range : need.returns-then-is-range
