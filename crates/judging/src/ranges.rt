@@ -18,6 +18,7 @@ use crate::terms::is_fixed;
 use crate::values::Domains;
 use crate::values::Ends;
 use crate::values::Question;
+use masks::CHANNELS;
 use masks::has;
 use masks::only;
 use sheet::Form;
@@ -176,7 +177,7 @@ fn among(sheet: &Sheet, domains: &Domains, node: u8, question: Question, word: u
         return None;
     }
     let mut passing = 0;
-    for c in 0..64u32 {
+    for c in 0..CHANNELS {
         if passes(sheet, domains, node, question, word, c) {
             passing |= 1 << c;
         }

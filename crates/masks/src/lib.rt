@@ -3,11 +3,14 @@ ghost use Prim.Native.Nat.{_<_};
 ghost use mathlib.Core.Path.{_≡_};
 ghost use Rattle.masks.specs.Sets.{channels, is-channel, holds, holds-only, lowest, highest, Lowest-in, Highest-in};
 
+// How many channels there are; they are numbered from 0.
+pub const CHANNELS: u32 = 64;
+
 // Whether v is a channel's number.
 fn is_channel(v: i64) -> bool
     ensures { λ r. ⌜ r ≡ is-channel v ⌝ }
 {
-    0 <= v && v < 64
+    0 <= v && v < i64::from(CHANNELS)
 }
 
 // Whether v is one of the channels of a set.
@@ -37,5 +40,5 @@ pub fn highest_in(word: u64) -> u32
     ensures value { λ r. ⌜ r ≡ highest channels word ⌝ }
     ensures greatest { λ r. ⌜ (0 < word → Highest-in word r) ⌝ }
 {
-    63u32.saturating_sub(word.leading_zeros())
+    (CHANNELS - 1).saturating_sub(word.leading_zeros())
 }

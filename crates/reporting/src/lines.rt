@@ -3,6 +3,8 @@ use faults::Layer;
 use faults::Place;
 use faults::Told;
 use judging::Domains;
+use masks::CHANNELS;
+use masks::has;
 use std::fmt;
 use verdicts::Verdict;
 
@@ -85,8 +87,8 @@ pub impl fmt::Display for Counts as CountsDisplay {
 
 pub impl fmt::Display for Spaced as SpacedDisplay {
     fn fmt<W: fmt::Write>(&self, f: &mut fmt::Formatter<W>) -> fmt::Result {
-        for channel in 0..64u32 {
-            if (self.0 >> channel) & 1 == 1 {
+        for channel in 0..CHANNELS {
+            if has(self.0, i64::from(channel)) {
                 write!(f, " {channel}")?;
             }
         }

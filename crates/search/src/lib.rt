@@ -4,6 +4,7 @@ ghost use Rattle.masks.specs.Tables.{Choice, Fixed};
 ghost use Rattle.std.specs.Of.Vec.{vec-len};
 ghost use Rattle.std.specs.Slices.{found};
 use judging::Domains;
+use masks::CHANNELS;
 use masks::has;
 use settling::settle;
 use sheet::Sheet;
@@ -18,7 +19,7 @@ fn plan_from(sheet: &Sheet, domains: Domains, station: usize) -> Option<Domains>
     if station == sheet.stations.len() {
         return Some(domains);
     }
-    for c in 0..64u32 {
+    for c in 0..CHANNELS {
         if has(domains[station], i64::from(c)) {
             let mut cut = domains;
             cut[station] = 1 << c;
