@@ -1,9 +1,9 @@
 -- The bound on terms grows sixteenfold with each step, up to the one of depth 8.
-use Prim.Native.Nat.{ℕ, zero, suc, _+_, _-_, _*_, _^_, _≤_, _<_}
+use Prim.Native.Nat.{ℕ, zero, suc, _-_, _*_, _^_, _≤_, _<_}
 use native.Mathlib.Nat.{pow-le-pow-right, pow-succ', le-refl}
 use native.Mathlib.Omega.{arith}
-use mathlib.Core.Path.{_≡_, refl, sym, ap, subst, _∙_}
-use lib.Dec.{lit<, lit≤}
+use mathlib.Core.Path.{_≡_, refl}
+use lib.Dec.{lit<}
 use lib.IntN.{ℤ, pos, negsuc, natAbs, negℤ, _*ℤ_}
 use borrow.Author.Differences.{ints}
 use mir.Syntax.{w64}

@@ -1,12 +1,12 @@
 -- Products, quotients and remainders keep the order of whole numbers, or turn it round.
-use Prim.Native.Nat.{ℕ, zero, suc, _+_, _-_, _*_, _/_, _%_, _≤_, _<_}
+use Prim.Native.Nat.{ℕ, suc, _+_, _-_, _*_, _/_, _%_, _≤_, _<_}
 use native.Mathlib.Nat.{le-refl, mod-lt, div-mul-le-self, div-add-mod', mul-comm, suc-mul}
 use native.Mathlib.Omega.{arith}
 use borrow.Author.Differences.{ints}
 use lib.Dec.{T}
-use lib.IntN.{ℤ, pos, negsuc, natAbs, _+ℤ_, _-ℤ_, _*ℤ_}
-use lib.Signed.{leZ, ltZ, _≤ℤ_, _<ℤ_}
-use mathlib.Core.Bool.{Bool, true, false, _&&_}
+use lib.IntN.{ℤ, pos, negsuc, _-ℤ_, _*ℤ_}
+use lib.Signed.{leZ, _≤ℤ_}
+use mathlib.Core.Bool.{Bool, true, false}
 use mathlib.Core.Path.{_≡_, refl, _∙_}
 use Rattle.std.proofs.shelf.Bits.{mul-le, le-div}
 use Rattle.std.proofs.shelf.Tests.{and-from, and-parts}

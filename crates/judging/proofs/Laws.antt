@@ -5,7 +5,6 @@ use lib.ListN.{length}
 use mathlib.Core.Bool.{Bool, true, _&&_}
 use mathlib.Core.Path.{_≡_}
 use Rattle.sheet.specs.Content.{Content, Valid}
-use Rattle.sheet.specs.declared.form.Node.{Node}
 use Rattle.std.proofs.shelf.Tests.{and-parts, ltb-true}
 use Rattle.judging.specs.Laws.{Judging-laws}
 use Rattle.judging.proofs.Ints.{division}

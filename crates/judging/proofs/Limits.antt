@@ -1,9 +1,9 @@
 -- How far the terms of a sheet lie from 0, whatever the channels.
-use Prim.Native.Nat.{ℕ, zero, suc, _+_, _-_, _*_, _/_, _%_, _≤_, _<_}
+use Prim.Native.Nat.{ℕ, zero, suc, _-_, _*_, _≤_, _<_}
 use native.Mathlib.Nat.{div-le-self, mod-lt}
 use native.Mathlib.Omega.{arith}
 use borrow.Author.Differences.{ints}
-use lib.IntN.{ℤ, pos, negsuc, natAbs, _+ℤ_, _-ℤ_, _*ℤ_}
+use lib.IntN.{ℤ, pos, negsuc, natAbs, _-ℤ_, _*ℤ_}
 use lib.ListN.{length, getD}
 use lib.Signed.{ltZ}
 use mathlib.Core.Bool.{Bool, true, false, cond}
@@ -16,14 +16,18 @@ use Rattle.sheet.specs.Sound.{no-node}
 use Rattle.sheet.specs.declared.form.Form.{Form}
 use Rattle.sheet.specs.declared.form.Form.the-variants.{Number, Station, Sum, Difference, Multiple, Quotient, Remainder, Between, AtLeast, AtMost, Channels, Union, Intersection, Complement, Shift}
 use Rattle.sheet.specs.declared.form.Node.{Node}
+use Rattle.sheet.specs.declared.valid.Sheet.{Sheet}
+use Rattle.std.specs.Of.Vec.{vec-items, vec-len}
 use Rattle.std.specs.Numbers.{divEuclid, remEuclid}
 use Rattle.judging.specs.Answers.{ends-of}
 use Rattle.judging.specs.Bounds.{bound, Bounded}
 use Rattle.judging.specs.Judged.{same, least, greatest}
-use Rattle.judging.specs.Known.{Known, Names, Divisor}
+use Rattle.judging.specs.Known.{Known}
 use Rattle.judging.specs.Nodes.{as-term, depth-at, term-of}
 use Rattle.judging.specs.Trees.{Term}
+use Rattle.judging.specs.declared.values.Ends.{Ends}
 use Rattle.judging.proofs.Bounds.{times-within}
+use Rattle.judging.proofs.Nodes.{known}
 use Rattle.judging.proofs.Trees.{term-step}
 
 -- the size of a quotient, and of a remainder
@@ -39,7 +43,7 @@ one-of-two : (b : Bool) (x y : ℤ) (m : ℕ) → natAbs x ≤ m → natAbs y �
 one-of-two true x y m p q = p
 one-of-two false x y m p q = q
 
-module _ (n : ℕ) (nodes : List Node) (known : (i : ℕ) → i < length nodes → Known n nodes i (getD nodes i no-node .form)) (D : List ℕ) where
+module _ (n : ℕ) (nodes : List Node) (each : (i : ℕ) → i < length nodes → Known n nodes i (getD nodes i no-node .form)) (D : List ℕ) where
   -- a term of one more step
   stepped : (i : ℕ) (x : Form) → Known n nodes i x → ((a : ℕ) → a < i → Bounded (bound (depth-at nodes a)) (ends-of D (term-of nodes a)))
       → Bounded (bound (depth-at nodes i)) (ends-of D (as-term (term-of nodes) x))
@@ -86,8 +90,18 @@ module _ (n : ℕ) (nodes : List Node) (known : (i : ℕ) → i < length nodes �
   reached : (m i : ℕ) → i < m → i < length nodes → Bounded (bound (depth-at nodes i)) (ends-of D (term-of nodes i))
   reached zero i l h = absurd (omega arith)
   reached (suc m) i l h =
-      subst (λ (t : Term). Bounded (bound (depth-at nodes i)) (ends-of D t)) (sym (term-step n nodes known i h))
-      (stepped i _ (known i h) (λ a e. reached m a (omega arith) (omega arith)))
+      subst (λ (t : Term). Bounded (bound (depth-at nodes i)) (ends-of D t)) (sym (term-step n nodes each i h))
+      (stepped i _ (each i h) (λ a e. reached m a (omega arith) (omega arith)))
 
   pub term-limit : (i : ℕ) → i < length nodes → bound (depth-at nodes i) ≤ 268435456000 → Bounded 268435456000 (ends-of D (term-of nodes i))
   term-limit i h b = let p = reached (suc i) i (omega arith) h in record { low = omega (arith, p .low); high = omega (arith, p .high) }
+
+  -- so whatever are the ends of node i
+  pub ends-within : (i : ℕ) → i < length nodes → (e : Ends) → e .least ≡ least D (term-of nodes i) → e .greatest ≡ greatest D (term-of nodes i) → Bounded (bound (depth-at nodes i)) e
+  ends-within i h e l g =
+      let p = reached (suc i) i (omega arith) h in
+      record { low = subst (λ (z : ℤ). natAbs z ≤ bound (depth-at nodes i)) (sym l) (p .low); high = subst (λ (z : ℤ). natAbs z ≤ bound (depth-at nodes i)) (sym g) (p .high) }
+
+pub within-sheet : (s : Sheet) (D : List ℕ) (i : ℕ) (e : Ends) → i < vec-len (s .nodes) → e .least ≡ least D (term-of (vec-items (s .nodes)) i)
+    → e .greatest ≡ greatest D (term-of (vec-items (s .nodes)) i) → Bounded (bound (depth-at (vec-items (s .nodes)) i)) e
+within-sheet s D i e h l g = ends-within _ _ (known _ _ (s .«few_stations») (s .«nodes_sound»)) D i (omega (arith, s .nodes .ok)) e l g

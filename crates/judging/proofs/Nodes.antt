@@ -1,28 +1,24 @@
 -- From a sheet's soundness to what is known of a node by what it says.
-use Prim.Native.Nat.{ℕ, suc, max, _+_, _*_, _≤_, _<_}
+use Prim.Native.Nat.{ℕ, _≤_, _<_}
 use native.Mathlib.Omega.{arith}
 use borrow.Author.Differences.{ints}
-use lib.IntN.{ℤ, pos, negsuc, natAbs}
+use lib.IntN.{ℤ, pos, negsuc}
 use lib.Signed.{leZ, _≤ℤ_}
-use lib.Dec.{eqb, ltb, leb}
+use lib.Dec.{ltb}
 use lib.ListN.{length, getD, take}
 use lib.Seq.{getD-take, length-take-le}
-use mathlib.Core.Bool.{Bool, true, false, not, _&&_}
+use mathlib.Core.Bool.{Bool, true, false, not}
 use mathlib.Core.List.{List}
-use mathlib.Core.Path.{_≡_, refl, sym, ap, subst, _∙_}
-use Rattle.std.proofs.shelf.Tests.{and-parts, not-true, eqb-true, leb-true, ltb-true}
+use mathlib.Core.Path.{_≡_, refl, subst}
+use Rattle.std.proofs.shelf.Tests.{and-parts, not-true, ltb-true}
 use Rattle.judging.specs.Bounds.{bound}
 use Rattle.judging.specs.Known.{Known, Names, Divisor}
-use Rattle.judging.specs.Nodes.{depth-at, term-at}
+use Rattle.judging.specs.Nodes.{depth-at}
 use Rattle.judging.proofs.Bounds.{bound-up, bound-step, bound-8, bound-1}
 use Rattle.sheet.proofs.Rows.{Row, row-of}
 use Rattle.sheet.specs.Kinds.{shape-of, fields-of, is-term}
-use Rattle.sheet.specs.Sound.{no-node, within, there, of-sort, depth-below, depth-of, sound-row, sound-node, Sound-nodes}
-use Rattle.sheet.specs.declared.form.Fields.{Fields}
+use Rattle.sheet.specs.Sound.{no-node, within, Sound-nodes}
 use Rattle.sheet.specs.declared.form.Node.{Node}
-use Rattle.sheet.specs.declared.form.Shape.{Shape}
-use Rattle.sheet.specs.declared.form.Slot.{Slot}
-use Rattle.sheet.specs.declared.form.Slot.the-variants as slot
 use Rattle.sheet.specs.declared.form.Form.{Form}
 use Rattle.sheet.specs.declared.form.Form.the-variants.{Number, Station, Sum, Difference, Multiple, Quotient, Remainder, Between, AtLeast, AtMost, Channels, Union, Intersection, Complement, Shift}
 

@@ -8,17 +8,17 @@ use lib.Pow.{pow-lt}
 use lib.Signed.{leZ, _≤ℤ_}
 use mathlib.Core.Bool.{Bool, true, false, not, _&&_, _||_}
 use mathlib.Core.List.{List}
-use mathlib.Core.Logic.{⊎-elim, _⊎_, inl, inr}
+use mathlib.Core.Logic.{⊎-elim, _⊎_}
 use mathlib.Core.Path.{_≡_, refl, sym, ap, ap₂, subst, _∙_}
 use Rattle.masks.proofs.Sets.{has-one, subset-one}
-use Rattle.masks.specs.Sets.{channels, has, holds, holds-only, Subset}
+use Rattle.masks.specs.Sets.{has, holds, holds-only, Subset}
 use Rattle.masks.specs.Tables.{at, Inside, Store, Fixed}
 use Rattle.std.proofs.shelf.Tests.{both-ways, cases-bool, cases-lt, cases-eq, and-from, and-parts, or-cases, or-left, or-right, not-true, not-from-false, eqb-true, eq-eqb, ne-eqb}
 use Rattle.judging.specs.Judged.{same, least, greatest, fixed, possible, certain}
 use Rattle.judging.specs.Laws.{Range-laws}
 use Rattle.judging.specs.Trees.{Term, Range, between, at-least, at-most, channels-of, union, intersection, complement, shift, names}
 use Rattle.judging.proofs.Ints.{le-yes, yes-le, le-trans, same-yes, yes-same}
-use Rattle.judging.proofs.TermLaws.{Nested, nested, one-value, looks}
+use Rattle.judging.proofs.TermLaws.{nested, one-value, looks}
 use Rattle.judging.proofs.Trees.{Term-over, Range-over}
 
 -- tests of order, carried over to ends further out

@@ -1,12 +1,12 @@
 -- The laws of terms.
-use Prim.Native.Nat.{ℕ, zero, suc, _≤_, _<_}
+use Prim.Native.Nat.{ℕ, _≤_}
 use native.Mathlib.Omega.{arith}
 use borrow.Author.Differences.{ints}
-use lib.IntN.{ℤ, pos, negsuc, natAbs, _+ℤ_, _-ℤ_, _*ℤ_}
+use lib.IntN.{ℤ, pos, negsuc, _+ℤ_, _-ℤ_, _*ℤ_}
 use lib.Signed.{ltZ, _≤ℤ_}
-use mathlib.Core.Bool.{Bool, true, false, cond, _||_}
+use mathlib.Core.Bool.{Bool, true, false, cond}
 use mathlib.Core.List.{List}
-use mathlib.Core.Path.{_≡_, refl, sym, ap, ap₂, subst, _∙_}
+use mathlib.Core.Path.{_≡_, refl, sym, ap, ap₂, _∙_}
 use Rattle.masks.proofs.Sets.{lowest-narrowed, highest-narrowed, lowest-highest, lowest-one, highest-one}
 use Rattle.masks.specs.Sets.{channels, lowest, highest}
 use Rattle.masks.specs.Tables.{at, Inside, Store, Fixed}
@@ -16,7 +16,7 @@ use Rattle.judging.specs.Judged.{same, least, greatest, fixed}
 use Rattle.judging.specs.Known.{Divisor}
 use Rattle.judging.specs.Laws.{Term-laws}
 use Rattle.judging.specs.Trees.{Term, number, station, sum, difference, multiple, quotient, remainder, term-names}
-use Rattle.judging.proofs.Ints.{le-trans, same-yes, yes-same, times-up, times-down, quotient-up, remainder-low, remainder-high}
+use Rattle.judging.proofs.Ints.{same-yes, yes-same, times-up, times-down, quotient-up, remainder-low, remainder-high}
 use Rattle.judging.proofs.Trees.{Term-over}
 
 -- the ends of one term lie within those of another, in order

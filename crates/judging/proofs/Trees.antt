@@ -1,18 +1,15 @@
 -- What a node stands for is told by what the nodes that it names stand for; and the trees of a sheet name only its stations, and divide by no number below 1.
-use Prim.Native.Nat.{ℕ, zero, suc, _≤_, _<_}
+use Prim.Native.Nat.{ℕ, zero, suc, _<_}
 use native.Mathlib.Omega.{arith}
-use lib.IntN.{ℤ, pos, natAbs}
 use lib.ListN.{length, getD}
-use mathlib.Core.Bool.{Bool, true, false}
 use mathlib.Core.List.{List}
-use mathlib.Core.Path.{_≡_, refl, sym, ap, ap₂, subst, _∙_}
-use Rattle.sheet.specs.Kinds.{is-term}
+use mathlib.Core.Path.{_≡_, refl, sym, ap, ap₂, subst}
 use Rattle.sheet.specs.Sound.{no-node}
 use Rattle.sheet.specs.declared.form.Node.{Node}
 use Rattle.sheet.specs.declared.form.Form.{Form}
 use Rattle.sheet.specs.declared.form.Form.the-variants.{Number, Station, Sum, Difference, Multiple, Quotient, Remainder, Between, AtLeast, AtMost, Channels, Union, Intersection, Complement, Shift}
 use Rattle.judging.specs.Known.{Known, Divisor}
-use Rattle.judging.specs.Nodes.{as-term, as-range, term-within, term-of, range-within, range-of, term-at}
+use Rattle.judging.specs.Nodes.{as-term, as-range, term-within, term-of, range-within, range-of}
 use Rattle.judging.specs.Trees.{Term, number, station, sum, difference, multiple, quotient, remainder}
 use Rattle.judging.specs.Trees.{Range, between, at-least, at-most, channels-of, union, intersection, complement, shift}
 

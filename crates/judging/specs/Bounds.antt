@@ -1,6 +1,6 @@
 -- How far a term's values can lie from 0.
 use Prim.Native.Nat.{ℕ, _-_, _*_, _^_, _≤_}
-use lib.IntN.{ℤ, natAbs}
+use lib.IntN.{natAbs}
 use Rattle.judging.specs.declared.values.Ends.{Ends}
 
 -- the bound on a term of depth d: a number lies within 1000, and each step up takes at most 16 times as much

@@ -1,5 +1,5 @@
 // The least and the greatest value of a term, over the channels that are left.
-ghost use Prim.Native.Nat.{ℕ, _<_, _≤_, _*_};
+ghost use Prim.Native.Nat.{_<_, _≤_, _*_};
 ghost use lib.IntN.{pos, natAbs, _+ℤ_, _-ℤ_, _*ℤ_};
 ghost use lib.Signed.{ltZ};
 ghost use mathlib.Core.Bool.{cond, true};
@@ -38,7 +38,6 @@ fn only(k: i64) -> Ends
 fn channel_ends(word: u64) -> Ends
     ensures least { λ r. ⌜ r .least ≡ pos (lowest channels word) ⌝ }
     ensures greatest { λ r. ⌜ r .greatest ≡ pos (highest channels word) ⌝ }
-    ensures within { λ r. ⌜ Bounded 64 r ⌝ }
 {
     Ends {
         least: i64::from(lowest_in(word)),
@@ -51,7 +50,6 @@ fn sum_ends(a: Ends, b: Ends) -> Ends
     requires { ⌜ Sixteenth 268435456000 a ⌝ ∗ ⌜ Sixteenth 268435456000 b ⌝ }
     ensures least { λ r. ⌜ r .least ≡ a .least +ℤ b .least ⌝ }
     ensures greatest { λ r. ⌜ r .greatest ≡ a .greatest +ℤ b .greatest ⌝ }
-    ensures within { λ r. ⌜ ((m : ℕ) → Sixteenth m a → Sixteenth m b → Bounded m r) ⌝ }
 {
     Ends {
         least: a.least + b.least,
@@ -64,7 +62,6 @@ fn difference_ends(a: Ends, b: Ends) -> Ends
     requires { ⌜ Sixteenth 268435456000 a ⌝ ∗ ⌜ Sixteenth 268435456000 b ⌝ }
     ensures least { λ r. ⌜ r .least ≡ a .least -ℤ b .greatest ⌝ }
     ensures greatest { λ r. ⌜ r .greatest ≡ a .greatest -ℤ b .least ⌝ }
-    ensures within { λ r. ⌜ ((m : ℕ) → Sixteenth m a → Sixteenth m b → Bounded m r) ⌝ }
 {
     Ends {
         least: a.least - b.greatest,
@@ -75,8 +72,7 @@ fn difference_ends(a: Ends, b: Ends) -> Ends
 // An end, multiplied by a factor.
 fn times(k: i64, end: i64) -> i64
     requires { ⌜ natAbs k ≤ 16 ⌝ ∗ ⌜ 16 * natAbs end ≤ 268435456000 ⌝ }
-    ensures value { λ r. ⌜ r ≡ k *ℤ end ⌝ }
-    ensures within { λ r. ⌜ natAbs r ≤ 16 * natAbs end ⌝ }
+    ensures { λ r. ⌜ r ≡ k *ℤ end ⌝ }
 {
     k * end
 }
@@ -86,7 +82,6 @@ fn multiple_ends(k: i64, a: Ends) -> Ends
     requires { ⌜ natAbs k ≤ 16 ⌝ ∗ ⌜ Sixteenth 268435456000 a ⌝ }
     ensures least { λ r. ⌜ r .least ≡ cond (ltZ k (pos 0)) (k *ℤ a .greatest) (k *ℤ a .least) ⌝ }
     ensures greatest { λ r. ⌜ r .greatest ≡ cond (ltZ k (pos 0)) (k *ℤ a .least) (k *ℤ a .greatest) ⌝ }
-    ensures within { λ r. ⌜ ((m : ℕ) → Sixteenth m a → Bounded m r) ⌝ }
 {
     if k < 0 {
         Ends {
@@ -106,7 +101,6 @@ fn quotient_ends(a: Ends, k: i64) -> Ends
     requires { ⌜ Divisor k ⌝ }
     ensures least { λ r. ⌜ r .least ≡ divEuclid (a .least) k ⌝ }
     ensures greatest { λ r. ⌜ r .greatest ≡ divEuclid (a .greatest) k ⌝ }
-    ensures within { λ r. ⌜ ((m : ℕ) → Sixteenth m a → Bounded m r) ⌝ }
 {
     Ends {
         least: a.least.div_euclid(k),
@@ -126,7 +120,6 @@ fn remainder_ends(a: Ends, k: i64) -> Ends
     requires { ⌜ Divisor k ⌝ }
     ensures least { λ r. ⌜ r .least ≡ cond (judged.same (a .least) (a .greatest)) (remEuclid (a .least) k) (pos 0) ⌝ }
     ensures greatest { λ r. ⌜ r .greatest ≡ cond (judged.same (a .least) (a .greatest)) (remEuclid (a .least) k) (k -ℤ pos 1) ⌝ }
-    ensures within { λ r. ⌜ Bounded 64 r ⌝ }
 {
     if is_fixed(a) {
         only(a.least.rem_euclid(k))

@@ -1,10 +1,10 @@
 -- Tables of channel sets, and the order of their being inside each other.
-use Prim.Native.Nat.{ℕ, _^_, _<_}
+use Prim.Native.Nat.{ℕ}
 use lib.Pow.{pow-lt, pow-pos}
 use mathlib.Core.List.{List}
-use mathlib.Core.Path.{_≡_, sym, subst}
-use Rattle.masks.specs.Sets.{channels, Some-channels}
-use Rattle.masks.specs.Tables.{at, Inside, Store, Fixed}
+use mathlib.Core.Path.{sym, subst}
+use Rattle.masks.specs.Sets.{Some-channels}
+use Rattle.masks.specs.Tables.{Inside, Store, Fixed}
 
 pub inside-self : (D : List ℕ) → Inside D D
 inside-self D s c h = h

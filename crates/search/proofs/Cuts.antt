@@ -6,7 +6,7 @@ use lib.Pow.{pow-lt, pow-pos}
 use lib.Seq.{getD-set-same, getD-set-other}
 use mathlib.Core.Bool.{true}
 use mathlib.Core.List.{List}
-use mathlib.Core.Logic.{⊎-elim, _⊎_, inl, inr}
+use mathlib.Core.Logic.{⊎-elim, _⊎_}
 use mathlib.Core.Path.{_≡_, sym, subst, _∙_}
 use Rattle.masks.proofs.Sets.{one-subset, subset-one}
 use Rattle.masks.proofs.Tables.{inside-self, inside-through}

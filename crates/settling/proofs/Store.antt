@@ -1,16 +1,16 @@
 -- Narrowing one station, narrowing again and again, and that a smaller store has a smaller sum.
-use Prim.Native.Nat.{ℕ, zero, suc, _+_, _≤_, _<_}
+use Prim.Native.Nat.{ℕ, suc, _≤_, _<_}
 use native.Mathlib.Omega.{arith}
 use lib.ListN.{length, length-set, getD, set}
 use lib.Seq.{getD-set-same, getD-set-other}
 use mathlib.Core.List.{List, [], _∷_}
-use mathlib.Core.Logic.{⊎-elim, _⊎_, inl, inr}
-use mathlib.Core.Path.{_≡_, refl, sym, ap, ap₂, subst, _∙_}
+use mathlib.Core.Logic.{⊎-elim, _⊎_}
+use mathlib.Core.Path.{_≡_, refl, sym, ap₂, subst, _∙_}
 use Rattle.std.proofs.shelf.Tests.{cases-eq}
 use Rattle.masks.proofs.Sets.{subset-le}
 use Rattle.masks.proofs.Tables.{inside-self, inside-through}
 use Rattle.masks.specs.Sets.{Subset, Some-channels}
-use Rattle.masks.specs.Tables.{at, Inside, Store}
+use Rattle.masks.specs.Tables.{at, Inside}
 use Rattle.settling.specs.Store.{Narrows, total}
 
 -- what holds of a changed place and of the others holds of each

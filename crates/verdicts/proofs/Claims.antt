@@ -1,21 +1,19 @@
 -- The laws of judging, for claims.
-use Prim.Native.Nat.{ℕ, _^_, _<_}
-use native.Mathlib.Omega.{arith}
-use lib.Dec.{eqb}
+use Prim.Native.Nat.{ℕ, _<_}
 use lib.IntN.{ℤ, pos}
-use mathlib.Core.Bool.{Bool, true, false, cond, not, _&&_, _||_}
+use mathlib.Core.Bool.{Bool, true, false, not, _&&_, _||_}
 use mathlib.Core.List.{List}
-use mathlib.Core.Logic.{_⊎_, inl, inr, ⊎-elim}
+use mathlib.Core.Logic.{_⊎_, ⊎-elim}
 use mathlib.Core.Path.{_≡_, refl, sym, ap, ap₂, subst, _∙_}
 use Rattle.judging.specs.Judged.{possible, certain}
 use Rattle.judging.specs.Laws.{Range-laws}
 use Rattle.judging.specs.Nodes.{range-of}
 use Rattle.masks.proofs.Sets.{every-at, every-from, every-fails, every-same, has-one, member-below, some-member}
-use Rattle.masks.specs.Sets.{channels, every, has}
+use Rattle.masks.specs.Sets.{channels, has}
 use Rattle.masks.specs.Tables.{at, Inside, Store, Fixed}
 use Rattle.sheet.specs.declared.form.Claim.{Claim}
 use Rattle.sheet.specs.declared.form.Node.{Node}
-use Rattle.std.proofs.shelf.Tests.{both-ways, cases-bool, and-from, and-parts, or-cases, or-left, or-parts, or-right, not-true, not-false, not-from-true, not-from-false, eq-eqb, eqb-true}
+use Rattle.std.proofs.shelf.Tests.{both-ways, cases-bool, or-cases, or-left, or-parts, or-right, not-true, not-false, not-from-false, eq-eqb, eqb-true}
 use Rattle.verdicts.specs.Laws.{claim-names}
 use Rattle.verdicts.specs.Rules.{All-certain, None-possible, all-certain, none-possible}
 

@@ -3,12 +3,12 @@ use Prim.Native.Nat.{ℕ}
 use mathlib.Core.Bool.{Bool, true, false, cond}
 use mathlib.Core.List.{List}
 use mathlib.Core.Logic.{_⊎_, inl, inr, ⊎-elim}
-use mathlib.Core.Path.{_≡_, refl, sym, ap, ap₂, subst, _∙_}
+use mathlib.Core.Path.{_≡_, refl, sym, ap, ap₂, _∙_}
 use Rattle.judging.proofs.Laws.{judging-laws}
 use Rattle.judging.specs.Laws.{Range-laws}
 use Rattle.judging.specs.Nodes.{has-range, range-of}
 use Rattle.masks.proofs.Tables.{fixed-store}
-use Rattle.masks.specs.Tables.{at, Inside, Store, Fixed, Choice}
+use Rattle.masks.specs.Tables.{at, Inside, Store, Fixed}
 use Rattle.sheet.specs.Content.{Content, Valid}
 use Rattle.sheet.specs.declared.form.Claim.{Claim}
 use Rattle.sheet.specs.declared.form.Node.{Node}

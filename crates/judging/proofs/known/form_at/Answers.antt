@@ -1,4 +1,4 @@
-use lib.ListN.{length, getD}
+use lib.ListN.{length}
 use Prim.Native.Nat.{_<_}
 use mathlib.Core.Path.{_≡_, sym, ap, subst}
 use native.Mathlib.Omega.{arith}

@@ -1,9 +1,8 @@
-use mathlib.Core.Path.{_≡_, refl}
 use mir.Facts.{toZ-ofZ}
 use mir.Syntax.{w64}
 use mir.Val.{SFits}
 use lib.IntN.{_*ℤ_}
-use Rattle.judging.proofs.Bounds.{times-within, times-fits}
+use Rattle.judging.proofs.Bounds.{times-fits}
 use Rattle.judging.proofs.terms.times.Needs as need
 
 pub mul-result : need.mul-result
@@ -17,4 +16,4 @@ returns c =
     let k = c .fits .k in
     let z = c .fits .end in
     let p : SFits w64 (c .args .k *ℤ c .args .end) = times-fits (c .args .k) (c .args .end) (c .pre .0) (c .pre .1) in
-    record { value = simp toZ-ofZ; within = simp toZ-ofZ (times-within (c .args .k) (c .args .end) (c .pre .0)) }
+    simp toZ-ofZ
