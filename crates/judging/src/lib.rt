@@ -1,4 +1,5 @@
 // What a sheet's terms and ranges say of given channels.
+#![tactic(auto)]
 mod known;
 mod ranges;
 mod terms;

@@ -1,4 +1,6 @@
 // Sets of channels as words: channel c is in the set where bit c is set.
+#![tactic(auto)]
+
 ghost use Rattle.std.specs.Prelude.{◌≡◌, ◌<◌};
 ghost use Rattle.masks.specs.Sets.{channels, is_channel, holds, holds_only, lowest, highest, LowestIn, HighestIn};
 

@@ -1,4 +1,5 @@
 // Reading a sheet: bytes in, a sheet or the first fault out.
+#![tactic(auto)]
 ghost use Rattle.std.specs.Prelude.{◌≡◌, Err, ◌≢◌};
 ghost use Rattle.faults.specs.declared.SheetFault.TheVariants.{Memory};
 ghost use Rattle.sheet.specs.Content.{Valid};

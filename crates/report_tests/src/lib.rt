@@ -1,4 +1,5 @@
 // Tests of judging and of the report, on small sheets worked out by hand.
+#![tactic(auto)]
 #[cfg(test)]
 mod judged;
 #[cfg(test)]

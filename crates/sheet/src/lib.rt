@@ -1,4 +1,5 @@
 // A sheet: the channels that each station may use, and the rules about them.
+#![tactic(auto)]
 mod form;
 mod kinds;
 mod valid;

@@ -1,4 +1,5 @@
 // Tests of reading a sheet, and the rows that tests write their sheets in.
+#![tactic(auto)]
 #[cfg(test)]
 mod accepted;
 #[cfg(test)]

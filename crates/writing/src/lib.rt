@@ -1,4 +1,5 @@
 // Writing a sheet back into bytes.
+#![tactic(auto)]
 ghost use Rattle.std.specs.Prelude.{◌≡◌, length};
 ghost use Rattle.sheet.specs.Content.{content};
 ghost use Rattle.writing.specs.Puts.{Writes};

@@ -6,7 +6,7 @@ use Rattle.masks.proofs.highest_in.Goals as goal
 pub returns : goal.returns
 returns c =
     let m = c.args.word in
-    let e : c.saturating-sub.result ≡ highest channels m = c.saturating-sub.ensures ∙ leading_is_highest channels m c.ranges.word.fits in
+    let e : c.saturating_sub.result ≡ highest channels m = c.saturating_sub.ensures ∙ leading_is_highest channels m c.ranges.word.fits in
     record {
       value = e;
       greatest = λ some. subst (HighestIn m) (sym e)

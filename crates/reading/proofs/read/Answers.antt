@@ -16,14 +16,14 @@ reads_too x (Err (Bytes f)) h = h
 reads_too x (Err (Record f at)) h = h
 reads_too x (Err (NoStation at)) h = h
 
-pub returns-in-err-room : goal.returns-in-err-room
-returns-in-err-room c =
-    let p = err_from_is_err_and c.from-residual.result c.from-residual.ensures.1 in
+pub returns-in_err-room : goal.returns-in_err-room
+returns-in_err-room c =
+    let p = err_from_is_err_and c.from_residual.result c.from_residual.ensures.1 in
     record { reads = rw (p.1, p.2) tt; definite = reading_definite c.args.bytes.now }
 
 pub returns : goal.returns
 returns c =
     record {
-      reads = reads_too (reading c.args.bytes.now) c.read-in.result c.read-in.ensures;
+      reads = reads_too (reading c.args.bytes.now) c.read_in.result c.read_in.ensures;
       definite = reading_definite c.args.bytes.now;
     }

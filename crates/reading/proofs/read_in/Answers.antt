@@ -21,45 +21,45 @@ loop-reader-init c =
     rw (c.new-reader.ensures.rest, c.new-reader.ensures.place, c.new-draft.ensures)
     (still_starts c.args.bytes.now, nothing_valid)
 
-pub returns-in-err-placed : goal.returns-in-err-placed
-returns-in-err-placed c =
-    let more = not_end c.is-at-end.result (length c.loop-reader.reader.rest.now) c.loop-reader-test.true c.is-at-end.ensures in
-    let p = err_from_is_err_and c.from-residual.result c.from-residual.ensures.1 in
+pub returns-in_err-placed : goal.returns-in_err-placed
+returns-in_err-placed c =
+    let more = not_end c.is_at_end.result (length c.loop-reader.reader.rest.now) c.loop-reader-test.true c.is_at_end.ensures in
+    let p = err_from_is_err_and c.from_residual.result c.from_residual.ensures.1 in
     let s = still_refused (drafted c.loop-reader.draft) c.loop-reader.reader.place c.loop-reader.reader.rest.now (reading c.args.bytes.now) more
-    c.in-err-placed.field-0.0 c.loop-reader.invariant.0 c.in-err-placed.ensures.value in
+    c.in_err-placed.field-0.0 c.loop-reader.invariant.0 c.in_err-placed.ensures.value in
     rw (p.1, p.2) s
 
 pub add-requires : goal.add-requires
 add-requires c =
-    (offered_whole c.loop-reader.reader.place c.loop-reader.reader.rest.now (piece c.in-ok-placed.placed) c.in-ok-placed.ensures.value).sized
+    (offered_whole c.loop-reader.reader.place c.loop-reader.reader.rest.now (piece c.in_ok-placed.placed) c.in_ok-placed.ensures.value).sized
 
 pub loop-reader-smaller : goal.loop-reader-smaller
 loop-reader-smaller c =
-    rw c.next-record.ensures.rest
-    (offered_whole c.loop-reader.reader.place c.loop-reader.reader.rest.now (piece c.in-ok-placed.placed) c.in-ok-placed.ensures.value).less
+    rw c.next_record.ensures.rest
+    (offered_whole c.loop-reader.reader.place c.loop-reader.reader.rest.now (piece c.in_ok-placed.placed) c.in_ok-placed.ensures.value).less
 
 pub loop-reader-preserved : goal.loop-reader-preserved
 loop-reader-preserved c =
-    rw (c.next-record.ensures.rest, c.next-record.ensures.place)
+    rw (c.next_record.ensures.rest, c.next_record.ensures.place)
     (turn_added (drafted c.loop-reader.draft) c.loop-reader.reader.place c.loop-reader.reader.rest.now (reading c.args.bytes.now)
-    (piece c.in-ok-placed.placed)
-    (not_end c.is-at-end.result (length c.loop-reader.reader.rest.now) c.loop-reader-test.true c.is-at-end.ensures)
-    c.loop-reader.invariant.0 c.in-ok-placed.ensures.value
-    (drafted c.add.new.self) c.loop-reader.invariant.1 c.in-ok-add.ensures)
+    (piece c.in_ok-placed.placed)
+    (not_end c.is_at_end.result (length c.loop-reader.reader.rest.now) c.loop-reader-test.true c.is_at_end.ensures)
+    c.loop-reader.invariant.0 c.in_ok-placed.ensures.value
+    (drafted c.add.new.self) c.loop-reader.invariant.1 c.in_ok-add.ensures)
 
-pub returns-in-err-add : goal.returns-in-err-add
-returns-in-err-add c =
-    let p = err_from_is_err_and c.from-residual-in-err-add.result c.from-residual-in-err-add.ensures.1 in
+pub returns-in_err-add : goal.returns-in_err-add
+returns-in_err-add c =
+    let p = err_from_is_err_and c.from_residual-in_err-add.result c.from_residual-in_err-add.ensures.1 in
     let r =
     turn_refused (drafted c.loop-reader.draft) c.loop-reader.reader.place c.loop-reader.reader.rest.now (reading c.args.bytes.now)
-    (piece c.in-ok-placed.placed)
-    (not_end c.is-at-end.result (length c.loop-reader.reader.rest.now) c.loop-reader-test.true c.is-at-end.ensures)
-    c.loop-reader.invariant.0 c.in-ok-placed.ensures.value
-    c.in-err-add.field-0.0 c.in-err-add.ensures in
+    (piece c.in_ok-placed.placed)
+    (not_end c.is_at_end.result (length c.loop-reader.reader.rest.now) c.loop-reader-test.true c.is_at_end.ensures)
+    c.loop-reader.invariant.0 c.in_ok-placed.ensures.value
+    c.in_err-add.field-0.0 c.in_err-add.ensures in
     rw (p.1, p.2) r
 
 pub returns : goal.returns
 returns c =
     let e = still_ends (drafted c.loop-reader.draft) c.loop-reader.reader.place c.loop-reader.reader.rest.now (reading c.args.bytes.now) c.loop-reader.invariant.0
-    (at_end c.is-at-end.result (length c.loop-reader.reader.rest.now) c.loop-reader-test.false c.is-at-end.ensures) in
+    (at_end c.is_at_end.result (length c.loop-reader.reader.rest.now) c.loop-reader-test.false c.is_at_end.ensures) in
     rw e c.finish.ensures

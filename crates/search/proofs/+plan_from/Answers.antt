@@ -18,17 +18,17 @@ settled_cut t c =
     let e : (1 * 2 ^ c.loop-c.c) % 2 ^ 64 ≡ 2 ^ c.loop-c.c = one_shl c.loop-c.c 64 (omega arith) in
     subst (λ (w : ℕ). Inside c.in-Some.settled (set c.args.domains c.args.station w)) e c.in-Some.ensures.inside
 
-pub plan-from-requires : goal.plan-from-requires
-plan-from-requires t c =
+pub plan_from-requires : goal.plan_from-requires
+plan_from-requires t c =
     let f : Fixed (suc c.args.station) c.in-Some.settled =
     fixed_inside _ _ c.in-Some.settled (settled_cut t c) (λ s h. c.in-Some.ensures.filled s (omega arith))
     (fixed_more c.args.station c.args.domains c.loop-c.c (within t c) (omega arith) c.requires.fixed) in
     (omega arith, (omega arith, λ s h. f s (omega arith)))
 
-pub returns-in-Some-plan-from : goal.returns-in-Some-plan-from
-returns-in-Some-plan-from t c =
-    let d = (goal.at.returns-in-Some-plan-from t c).In-Some in
+pub returns-in-Some-plan_from : goal.returns-in-Some-plan_from
+returns-in-Some-plan_from t c =
+    let d = (goal.at.returns-in-Some-plan_from t c).In-Some in
     let e : has (at c.args.domains c.args.station) c.loop-c.c ≡ true = search rules in
-    choice_through c.args.sheet.now.stations.len c.args.domains c.in-Some.settled c.in-Some-plan-from.plan
+    choice_through c.args.sheet.now.stations.len c.args.domains c.in-Some.settled c.in-Some-plan_from.plan
     (cut_inside c.args.domains c.in-Some.settled c.args.station c.loop-c.c (within t d) (omega arith) e (settled_cut t d))
-    c.in-Some-plan-from.ensures
+    c.in-Some-plan_from.ensures

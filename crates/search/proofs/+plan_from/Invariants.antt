@@ -1,5 +1,5 @@
 use Rattle.std.proofs.Common.{◌-◌, vec_len}
 use Rattle.search.proofs.+plan_from.Given as goal
 
-abbrev pub decreases-plan-from : goal.decreases-plan-from
-decreases-plan-from l = vec_len l.sheet.now.stations - l.station
+abbrev pub decreases-plan_from : goal.decreases-plan_from
+decreases-plan_from l = vec_len l.sheet.now.stations - l.station

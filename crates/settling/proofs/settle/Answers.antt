@@ -11,7 +11,7 @@ loop-after-init c = (inside_self _, c.if-not-filled.ensures tt)
 
 pub returns-then-eq : goal.returns-then-eq
 returns-then-eq c =
-    let n = c.in-ok-after.ensures in
+    let n = c.in_ok-after.ensures in
     record {
       inside = inside_through _ _ _ n.inside c.loop-after.invariant.0;
       filled = n.filled c.loop-after.invariant.1;
@@ -19,11 +19,11 @@ returns-then-eq c =
 
 pub loop-after-smaller : goal.loop-after-smaller
 loop-after-smaller c =
-    let n = c.in-ok-after.ensures in
-    total_falls c.loop-after.before c.in-ok-after.after (sym n.long) n.inside
+    let n = c.in_ok-after.ensures in
+    total_falls c.loop-after.before c.in_ok-after.after (sym n.long) n.inside
     (λ e. both_ways _ c.if-eq.false ((slice_eq-Decides Decides-eqb _ _ _ c.eq.ensures).1 e))
 
 pub loop-after-preserved : goal.loop-after-preserved
 loop-after-preserved c =
-    let n = c.in-ok-after.ensures in
+    let n = c.in_ok-after.ensures in
     (inside_through _ _ _ n.inside c.loop-after.invariant.0, n.filled c.loop-after.invariant.1)

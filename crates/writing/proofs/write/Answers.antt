@@ -14,40 +14,40 @@ pub returns-then-out-size : goal.returns-then-out-size
 returns-then-out-size c =
     record { writes = (refl, omega arith, refl); back = written_back (content c.args.sheet.now); forth = read_back (content c.args.sheet.now) (valid c.args.sheet.now) (some_station c.args.sheet.now) }
 
-pub put-all-nodes-at-requires : goal.put-all-nodes-at-requires
-put-all-nodes-at-requires c =
-    rw c.as-slice.ensures.value (omega (arith, written-length (content c.args.sheet.now), c.size.ensures))
+pub put_all-nodes_at-requires : goal.put_all-nodes_at-requires
+put_all-nodes_at-requires c =
+    rw c.as_slice.ensures.value (omega (arith, written-length (content c.args.sheet.now), c.size.ensures))
 
-pub put-all-rules-at-requires : goal.put-all-rules-at-requires
-put-all-rules-at-requires c =
-    let first = rw c.as-slice.ensures.value at c.put-all-nodes-at.ensures.end in
-    rw c.as-slice-2.ensures.value (omega (arith, written-length (content c.args.sheet.now), c.size.ensures, first))
+pub put_all-rules_at-requires : goal.put_all-rules_at-requires
+put_all-rules_at-requires c =
+    let first = rw c.as_slice.ensures.value at c.put_all-nodes_at.ensures.end in
+    rw c.as_slice-2.ensures.value (omega (arith, written-length (content c.args.sheet.now), c.size.ensures, first))
 
-pub put-all-requires : goal.put-all-requires
-put-all-requires c =
-    let first = rw c.as-slice.ensures.value at c.put-all-nodes-at.ensures.end in
-    let second = rw c.as-slice-2.ensures.value at c.put-all-rules-at.ensures.end in
-    rw c.as-slice-3.ensures.value (omega (arith, written-length (content c.args.sheet.now), c.size.ensures, first, second))
+pub put_all-requires : goal.put_all-requires
+put_all-requires c =
+    let first = rw c.as_slice.ensures.value at c.put_all-nodes_at.ensures.end in
+    let second = rw c.as_slice-2.ensures.value at c.put_all-rules_at.ensures.end in
+    rw c.as_slice-3.ensures.value (omega (arith, written-length (content c.args.sheet.now), c.size.ensures, first, second))
 
 pub returns : goal.returns
 unfolding written
 returns c =
-    let first = rw c.as-slice.ensures.value at c.put-all-nodes-at.ensures.end in
-    let second = rw c.as-slice-2.ensures.value at c.put-all-rules-at.ensures.end in
-    let third = rw c.as-slice-3.ensures.value at c.put-all.ensures.end in
-    let n : c.put-all.result ≡ length (written (content c.args.sheet.now)) = omega (arith, written-length (content c.args.sheet.now), first, second, third) in
-    let p : Put 0 (written (content c.args.sheet.now)) c.args.out.now c.put-all.new.out =
+    let first = rw c.as_slice.ensures.value at c.put_all-nodes_at.ensures.end in
+    let second = rw c.as_slice-2.ensures.value at c.put_all-rules_at.ensures.end in
+    let third = rw c.as_slice-3.ensures.value at c.put_all.ensures.end in
+    let n : c.put_all.result ≡ length (written (content c.args.sheet.now)) = omega (arith, written-length (content c.args.sheet.now), first, second, third) in
+    let p : Put 0 (written (content c.args.sheet.now)) c.args.out.now c.put_all.new.out =
     put_three
     (flat_map station_bytes (vec_items c.args.sheet.now.stations))
     (flat_map node_bytes (vec_items c.args.sheet.now.nodes))
     (flat_map rule_bytes (vec_items c.args.sheet.now.rules))
-    c.args.out.now c.put-all-nodes-at.new.out c.put-all-rules-at.new.out c.put-all.new.out
-    c.put-all-nodes-at.result c.put-all-rules-at.result
-    (rw c.as-slice.ensures.value at c.put-all-nodes-at.ensures.put) first
-    (rw c.as-slice-2.ensures.value at c.put-all-rules-at.ensures.put) second
-    (rw c.as-slice-3.ensures.value at c.put-all.ensures.put) in
+    c.args.out.now c.put_all-nodes_at.new.out c.put_all-rules_at.new.out c.put_all.new.out
+    c.put_all-nodes_at.result c.put_all-rules_at.result
+    (rw c.as_slice.ensures.value at c.put_all-nodes_at.ensures.put) first
+    (rw c.as_slice-2.ensures.value at c.put_all-rules_at.ensures.put) second
+    (rw c.as_slice-3.ensures.value at c.put_all.ensures.put) in
     record {
-      writes = (n, rw n (put_front (written (content c.args.sheet.now)) c.args.out.now c.put-all.new.out p));
+      writes = (n, rw n (put_front (written (content c.args.sheet.now)) c.args.out.now c.put_all.new.out p));
       back = written_back (content c.args.sheet.now);
       forth = read_back (content c.args.sheet.now) (valid c.args.sheet.now) (some_station c.args.sheet.now);
     }

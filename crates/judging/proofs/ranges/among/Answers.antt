@@ -8,7 +8,7 @@ use Rattle.judging.specs.Nodes.{range_of}
 use Rattle.masks.specs.Sets.{has}
 
 pub returns : goal.returns
-returns c = answered _ _ _ c.if-not-is-range.ensures (all_seen _ c.loop-c.c _ (omega arith) c.loop-c.invariant)
+returns c = answered _ _ _ c.if-not-is_range.ensures (all_seen _ c.loop-c.c _ (omega arith) c.loop-c.invariant)
 
 pub loop-c-init : goal.loop-c-init
 loop-c-init c = none_yet _

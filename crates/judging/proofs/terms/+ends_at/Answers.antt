@@ -11,8 +11,8 @@ pub returns-in-Station : goal.returns-in-Station
 returns-in-Station t c =
     let s = c.args.sheet.now in
     let D = c.args.domains.now in
-    let l : c.channel-ends.result.least ≡ least D (term_of s.nodes.items c.args.node) = search rules in
-    let g : c.channel-ends.result.greatest ≡ greatest D (term_of s.nodes.items c.args.node) = search rules in
+    let l : c.channel_ends.result.least ≡ least D (term_of s.nodes.items c.args.node) = search rules in
+    let g : c.channel_ends.result.greatest ≡ greatest D (term_of s.nodes.items c.args.node) = search rules in
     record { least = l; greatest = g; within = within_sheet s D c.args.node _ c.requires.there l g }
 
 pub returns-in-Sum : goal.returns-in-Sum
@@ -25,8 +25,8 @@ pub returns-in-Multiple : goal.returns-in-Multiple
 returns-in-Multiple t c =
     let s = c.args.sheet.now in
     let D = c.args.domains.now in
-    let l : c.multiple-ends.result.least ≡ least D (term_of s.nodes.items c.args.node) = search rules in
-    let g : c.multiple-ends.result.greatest ≡ greatest D (term_of s.nodes.items c.args.node) = search rules in
+    let l : c.multiple_ends.result.least ≡ least D (term_of s.nodes.items c.args.node) = search rules in
+    let g : c.multiple_ends.result.greatest ≡ greatest D (term_of s.nodes.items c.args.node) = search rules in
     record { least = l; greatest = g; within = within_sheet s D c.args.node _ c.requires.there l g }
 
 pub returns-in-Quotient : goal.returns-in-Quotient
@@ -36,6 +36,6 @@ pub returns-in-Remainder : goal.returns-in-Remainder
 returns-in-Remainder t c =
     let s = c.args.sheet.now in
     let D = c.args.domains.now in
-    let l : c.remainder-ends.result.least ≡ least D (term_of s.nodes.items c.args.node) = search rules in
-    let g : c.remainder-ends.result.greatest ≡ greatest D (term_of s.nodes.items c.args.node) = search rules in
+    let l : c.remainder_ends.result.least ≡ least D (term_of s.nodes.items c.args.node) = search rules in
+    let g : c.remainder_ends.result.greatest ≡ greatest D (term_of s.nodes.items c.args.node) = search rules in
     record { least = l; greatest = g; within = within_sheet s D c.args.node _ c.requires.there l g }

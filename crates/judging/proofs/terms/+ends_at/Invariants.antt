@@ -1,4 +1,4 @@
 use Rattle.judging.proofs.terms.+ends_at.Given as goal
 
-abbrev pub decreases-ends-at : goal.decreases-ends-at
-decreases-ends-at l = l.node
+abbrev pub decreases-ends_at : goal.decreases-ends_at
+decreases-ends_at l = l.node

@@ -2,8 +2,8 @@ use Rattle.std.proofs.Common.{◌*ℤ◌, to_z-of_z, w64, SFits}
 use Rattle.judging.proofs.Bounds.{times_fits}
 use Rattle.judging.proofs.terms.times.Goals as goal
 
-pub overflow-mul-result : goal.overflow-mul-result
-overflow-mul-result c =
+pub overflow_mul-result : goal.overflow_mul-result
+overflow_mul-result c =
     let k = c.ranges.k in
     let z = c.ranges.end in
     simp to_z-of_z (times_fits c.args.k c.args.end c.requires.0 c.requires.1)

@@ -4,4 +4,4 @@ use Rattle.masks.specs.Sets.{channels}
 use Rattle.verdicts.proofs.rules.is_broken.Goals as goal
 
 pub returns : goal.returns
-returns c = ap (λ (x : ℕ). eqb x 0) c.possible-channels.ensures ∙ none_pass channels _
+returns c = ap (λ (x : ℕ). eqb x 0) c.possible_channels.ensures ∙ none_pass channels _

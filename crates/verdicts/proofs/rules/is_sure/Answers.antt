@@ -10,5 +10,5 @@ pub returns : goal.returns
 returns c =
     let D = c.args.domains.now in
     let m : ℕ = at D c.args.claim.station in
-    ap (λ (x : ℕ). eqb x m) c.certain-channels.ensures
+    ap (λ (x : ℕ). eqb x m) c.certain_channels.ensures
     ∙ all_pass channels m (λ v. certain D (range_of c.args.sheet.now.nodes.items c.args.claim.range) (pos v)) (c.fits-domains c.args.claim.station)

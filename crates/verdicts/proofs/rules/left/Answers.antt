@@ -15,6 +15,6 @@ returns-then-rule-len c =
     let l : c.args.rule < length s.rules = omega (arith, c.args.sheet.now.rules.ok) in
     let t : true ≡ ltb c.args.rule (length s.rules) = sym (lt-ltb _ _ l) in
     record {
-      value = answered _ _ _ t (c.rule-left.ensures ∙ ap (λ (ρ : Rule). leaves s.nodes D ρ) c.rule-at.ensures.value);
-      within = subst (λ (x : Narrowed). Within c.args.sheet.now.stations.len D x) (sym c.rule-left.ensures) (leaves-within _ _ _ _ c.rule-at.ensures.placed);
+      value = answered _ _ _ t (c.rule_left.ensures ∙ ap (λ (ρ : Rule). leaves s.nodes D ρ) c.rule_at.ensures.value);
+      within = subst (λ (x : Narrowed). Within c.args.sheet.now.stations.len D x) (sym c.rule_left.ensures) (leaves-within _ _ _ _ c.rule_at.ensures.placed);
     }

@@ -20,7 +20,7 @@ returns-then-rule-len c =
     let ρ : Rule = get_or s.rules c.args.rule missing_rule in
     let l : c.args.rule < length s.rules = omega (arith, c.args.sheet.now.rules.ok) in
     let t : true ≡ ltb c.args.rule (length s.rules) = sym (lt-ltb _ _ l) in
-    let e : c.rule_verdict.result ≡ rule_verdict s.nodes D ρ = c.rule_verdict.ensures ∙ ap (λ (x : Rule). rule_verdict s.nodes D x) c.rule-at.ensures.value in
+    let e : c.rule_verdict.result ≡ rule_verdict s.nodes D ρ = c.rule_verdict.ensures ∙ ap (λ (x : Rule). rule_verdict s.nodes D x) c.rule_at.ensures.value in
     record {
       value = answered _ _ _ t e;
       means = λ store. subst (λ (x : Verdict). Means x s.nodes D ρ) (sym e) (rule_means _ _ (judging_laws s v).ranges ρ (placed_rule _ _ _ (v.rules_sound c.args.rule l)) D store);

@@ -17,4 +17,4 @@ returns c =
       front = take-put_mid at (end - at) out part end refl within;
       behind = drop-put_mid at (end - at) out part end (omega arith) within (omega arith);
     } in
-    record { put = rw c.copy-from-slice.ensures.after copied; end = refl }
+    record { put = rw c.copy_from_slice.ensures.after copied; end = refl }
