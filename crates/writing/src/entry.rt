@@ -64,9 +64,9 @@ impl Entry for Rule {
 
 // Puts all items one behind another, from a place on, and says where they end.
 pub(crate) fn put_all<T: Entry>(items: &[T], out: &mut [u8], at: usize) -> usize
-    requires { at + length (flat_map bytes items.now) ≤ length out.old }
-    ensures put { Put at (flat_map bytes items.now) out.old out.new }
-    ensures end { result ≡ at + length (flat_map bytes items.now) }
+    requires { at + length (flat_map T.bytes items.now) ≤ length out.old }
+    ensures put { Put at (flat_map T.bytes items.now) out.old out.new }
+    ensures end { result ≡ at + length (flat_map T.bytes items.now) }
 {
     let mut end = at;
     for item in items {
