@@ -1,5 +1,6 @@
 // Tests of judging and of the report, on small sheets worked out by hand.
 #![tactic(auto)]
+
 #[cfg(test)]
 mod judged;
 #[cfg(test)]

@@ -110,7 +110,10 @@ fn is_claim(claim: Claim, station: u8, range: u8) -> bool {
 fn what_the_bytes_say(rt: HostRuntime) -> Result<(), Fail> {
     let sheet = read(rt.alloc(), &BYTES)?;
     // channels 63 and 0, and channels 8 and 1
-    assert_eq!(rt; sheet.stations.as_slice(), &[0x8000000000000001, 258]);
+    assert_eq!(rt;
+        sheet.stations.as_slice(),
+        [0x8000000000000001, 258].as_slice()
+    );
     assert_eq!(rt; (sheet.nodes.len(), sheet.rules.len()), (15, 2));
     for (i, node) in sheet.nodes.iter().enumerate() {
         assert!(rt; is_node(i, *node), "node {i}");

@@ -1,5 +1,6 @@
 // Tests of reading a sheet, and the rows that tests write their sheets in.
 #![tactic(auto)]
+
 #[cfg(test)]
 mod accepted;
 #[cfg(test)]

@@ -71,29 +71,27 @@ fn sort_and_part(record: Record<'_>) -> (Sort, &[u8]) {
     }
 }
 
-fn is_found(rt: &impl Abort, case: &Case) -> Result<(), Fail> {
+fn is_found(rt: &impl Abort, i: usize, case: &Case) -> Result<(), Fail> {
     let (bytes, number, expected) = *case;
     match (record_at(bytes, number), expected) {
         (Some(placed), Some((sort, part, byte))) => {
-            assert_eq!(rt; sort_and_part(placed.record), (sort, part));
-            assert_eq!(rt;
-                placed.place,
-                Place {
-                    record: number,
-                    byte,
-                }
-            );
+            assert_eq!(rt; sort_and_part(placed.record), (sort, part), "case {i}");
+            let place = Place {
+                record: number,
+                byte,
+            };
+            assert_eq!(rt; placed.place, place, "case {i}");
             Ok(())
         }
         (None, None) => Ok(()),
-        _ => Err(Fail::new("one record found, and the other not")),
+        _ => Err(Fail::new(format_args!("case {i}: one record found, and the other not"))),
     }
 }
 
 #[test]
 fn record_by_number(rt: HostRuntime) -> Result<(), Fail> {
     for (i, case) in CASES.iter().enumerate() {
-        is_found(&rt, case).note(format_args!("case {i}"))?;
+        is_found(&rt, i, case)?;
     }
     Ok(())
 }

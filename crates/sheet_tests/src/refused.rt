@@ -3,7 +3,7 @@
 use crate::rows::Row::{Again, Nd, Raw, Ru, St};
 use crate::rows::{Row, bytes_of};
 use faults::Layer::{Bytes, Sheet};
-use faults::{Layer, Place, SheetFault, Told};
+use faults::{Layer, Place, Told};
 use reading::read;
 use std::alloc::Global;
 use std::process::Abort;
@@ -12,38 +12,33 @@ use std::test::Fail;
 // Some rows, and the number, layer, record and byte that they are refused with.
 type Case = (&'static [Row], (u8, Layer, usize, usize));
 
-// What the bytes are refused with.
-fn fault_of(heap: Global, bytes: &[u8]) -> Result<SheetFault, Fail> {
-    match read(heap, bytes) {
-        Ok(_) => Err(Fail::new("the sheet was accepted")),
-        Err(fault) => Ok(fault),
+// What a fault is told as with the number, layer, record and byte.
+fn told(wanted: (u8, Layer, usize, usize)) -> Told {
+    let (number, layer, record, byte) = wanted;
+    let place = Some(Place { record, byte });
+    Told {
+        number,
+        layer,
+        place,
     }
 }
 
-// The bytes are refused with the number, layer, record and byte.
-fn is_refused(
-    rt: &impl Abort,
-    heap: Global,
-    bytes: &[u8],
-    wanted: (u8, Layer, usize, usize),
-) -> Result<(), Fail> {
-    let (number, layer, record, byte) = wanted;
-    let place = Some(Place { record, byte });
-    assert_eq!(rt;
-        fault_of(heap, bytes)?.told(),
-        Told {
-            number,
-            layer,
-            place,
-        }
-    );
-    Ok(())
+// What the bytes are refused with; nothing where they are accepted.
+fn refusal(heap: Global, bytes: &[u8]) -> Option<Told> {
+    match read(heap, bytes) {
+        Ok(_) => None,
+        Err(fault) => Some(fault.told()),
+    }
 }
 
 fn are_refused(rt: &impl Abort, heap: Global, cases: &[Case]) -> Result<(), Fail> {
     for (i, case) in cases.iter().enumerate() {
         let bytes = bytes_of(heap, case.0)?;
-        is_refused(rt, heap, bytes.as_slice(), case.1).note(format_args!("case {i}"))?;
+        assert_eq!(rt;
+            refusal(heap, bytes.as_slice()),
+            Some(told(case.1)),
+            "case {i}"
+        );
     }
     Ok(())
 }
@@ -325,11 +320,11 @@ fn with_node(heap: Global, node: Row) -> Result<Vec<u8>, Fail> {
 }
 
 // A kind takes the ends of its k.
-fn ends_fit(heap: Global, ends: &Ends) -> Result<(), Fail> {
+fn ends_fit(rt: &impl Abort, heap: Global, ends: &Ends) -> Result<(), Fail> {
     let (kind, a, b, inside, _) = *ends;
     for k in inside {
         let bytes = with_node(heap, Nd(kind, a, b, k))?;
-        read(heap, bytes.as_slice())?;
+        assert_eq!(rt; refusal(heap, bytes.as_slice()), None, "kind {kind} k {k}");
     }
     Ok(())
 }
@@ -339,7 +334,12 @@ fn outside_is_refused(rt: &impl Abort, heap: Global, ends: &Ends) -> Result<(), 
     let (kind, a, b, _, [below, above]) = *ends;
     for k in [below, above, -1001, 1001, -32768, 32767] {
         let bytes = with_node(heap, Nd(kind, a, b, k))?;
-        is_refused(rt, heap, bytes.as_slice(), (7, Sheet, 3, 24)).note(format_args!("k {k}"))?;
+        let wanted = Some(told((7, Sheet, 3, 24)));
+        assert_eq!(rt;
+            refusal(heap, bytes.as_slice()),
+            wanted,
+            "kind {kind} k {k}"
+        );
     }
     Ok(())
 }
@@ -362,9 +362,8 @@ fn depth_nine(rt: HostRuntime) -> Result<(), Fail> {
     for (i, case) in BEHIND_CHAIN.iter().enumerate() {
         let mut bytes = bytes_of(heap, &CHAIN)?;
         bytes.extend_from_slice(bytes_of(heap, &[case.0])?.as_slice())?;
-        is_refused(&rt, heap, bytes.as_slice(), (case.1, Sheet, 9, 66)).note(format_args!(
-            "case {i}"
-        ))?;
+        let wanted = Some(told((case.1, Sheet, 9, 66)));
+        assert_eq!(rt; refusal(heap, bytes.as_slice()), wanted, "case {i}");
     }
     Ok(())
 }
@@ -373,9 +372,8 @@ fn depth_nine(rt: HostRuntime) -> Result<(), Fail> {
 fn limits_of_numbers(rt: HostRuntime) -> Result<(), Fail> {
     let heap = rt.alloc();
     for ends in &ENDS {
-        let kind = ends.0;
-        ends_fit(heap, ends).note(format_args!("kind {kind}"))?;
-        outside_is_refused(&rt, heap, ends).note(format_args!("kind {kind}"))?;
+        ends_fit(&rt, heap, ends)?;
+        outside_is_refused(&rt, heap, ends)?;
     }
     Ok(())
 }

@@ -14,8 +14,8 @@ fn written_back_byte_for_byte(rt: HostRuntime) -> Result<(), Fail> {
     assert_eq!(rt; size(&sheet), 139);
     let mut out = [FILL; 142];
     assert_eq!(rt; write(&sheet, &mut out)?, 139);
-    assert_eq!(rt; &out[0..139], &BYTES);
-    assert_eq!(rt; &out[139..142], &[FILL; 3]);
+    assert_eq!(rt; &out[0..139], BYTES.as_slice());
+    assert_eq!(rt; &out[139..142], [FILL; 3].as_slice());
     Ok(())
 }
 
@@ -24,7 +24,7 @@ fn a_buffer_of_just_the_size_will_do(rt: HostRuntime) -> Result<(), Fail> {
     let sheet = read(rt.alloc(), &BYTES)?;
     let mut out = [FILL; 139];
     assert_eq!(rt; write(&sheet, &mut out)?, 139);
-    assert_eq!(rt; &out[0..139], &BYTES);
+    assert_eq!(rt; &out[0..139], BYTES.as_slice());
     Ok(())
 }
 
@@ -46,7 +46,7 @@ fn nothing_is_written_into_a_shorter_buffer(rt: HostRuntime) -> Result<(), Fail>
     };
     let mut out = [FILL; 138];
     assert_eq!(rt; refused(write(&sheet, &mut out))?, too_short);
-    assert_eq!(rt; &out[0..138], &[FILL; 138]);
+    assert_eq!(rt; &out[0..138], [FILL; 138].as_slice());
     assert_eq!(rt; refused(write(&sheet, &mut []))?, too_short);
     Ok(())
 }
