@@ -1,5 +1,5 @@
 -- What each fault is told as: its number and layer, and for the layers bytes and sheet its place.
-use Rattle.std.specs.Prelude.{ℕ, Some, None, Option}
+use Rattle.std.specs.Prelude.{ℕ, Some, None}
 use Rattle.faults.specs.declared.Place.{Place}
 use Rattle.faults.specs.declared.Layer.{Layer}
 use Rattle.faults.specs.declared.Layer.TheVariants as layer

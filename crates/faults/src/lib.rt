@@ -1,5 +1,6 @@
 // What may be wrong with a sheet or a call: a fault type a layer, each carrying the layer below it whole.
 #![tactic(auto)]
+
 ghost use Rattle.std.specs.Prelude.{◌≡◌};
 ghost use Rattle.faults.specs.Told.{told_at, number_of, told_bytes, told_sheet, told_plan};
 ghost use Rattle.faults.specs.declared.SheetFault.TheVariants.{Bytes, Memory};

@@ -1,5 +1,5 @@
 -- Products, quotients and remainders keep the order of whole numbers, or turn it round.
-use Rattle.std.proofs.Common.{◌≡◌, ℕ, suc, ◌+◌, ◌-◌, ◌*◌, ◌/◌, ◌%◌, ◌<◌, ◌≤◌, Bool, true, false, T, ℤ, pos, negsuc, ◌-ℤ◌, ◌*ℤ◌, ◌≤ℤ◌, refl, ◌∙◌, le_refl, mod-lt, suc-mul, mul_comm, div-add-mod', div-mul-le_self, arith}
+use Rattle.std.proofs.Common.{◌≡◌, ℕ, suc, ◌+◌, ◌*◌, ◌/◌, ◌%◌, ◌<◌, ◌≤◌, Bool, true, false, T, ℤ, pos, negsuc, ◌-ℤ◌, ◌*ℤ◌, ◌≤ℤ◌, refl, ◌∙◌, le_refl, mod-lt, suc-mul, mul_comm, div-add-mod', div-mul-le_self, arith}
 use borrow.Author.Differences.{ints}
 use lib.Signed.{le_z}
 use Rattle.std.proofs.lemmas.Nat.{mul-le, le-div}

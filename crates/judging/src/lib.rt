@@ -1,5 +1,6 @@
 // What a sheet's terms and ranges say of given channels.
 #![tactic(auto)]
+
 mod known;
 mod ranges;
 mod terms;

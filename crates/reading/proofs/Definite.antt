@@ -2,14 +2,13 @@
 use Rattle.std.proofs.Common.{◌≡◌, ℕ, zero, suc, Bool, true, false, cond, eqb, List, length, Ok, Err, Result, arith}
 use Rattle.faults.specs.declared.Place.{Place}
 use Rattle.faults.specs.declared.Flaw.{Flaw}
-use Rattle.faults.specs.declared.SheetFault.{SheetFault}
-use Rattle.faults.specs.declared.SheetFault.TheVariants.{Bytes, Record, NoStation, Memory}
+use Rattle.faults.specs.declared.SheetFault.TheVariants.{NoStation, Memory}
 use Rattle.records.specs.Records.{Sort, station, node, rule, whole}
 use Rattle.records.specs.Handed.{start, next_place}
 use Rattle.sheet.specs.Content.{Content}
 use Rattle.reading.specs.Decoding.{station_of, node_of, rule_of}
 use Rattle.reading.specs.Reading.{nothing, with_station, with_node, with_rule, put, added, finished, onto, reading}
-use Rattle.reading.proofs.Onto.{Step, ended, broken, flawed, further, step}
+use Rattle.reading.proofs.Onto.{ended, broken, flawed, further, step}
 
 put_definite : {X : Type 0} (more : X → Content) (at : Place) (r : Result X Flaw) → put more at r ≡ Err Memory → ⊥
 put_definite more at (Ok x) e = grind arith

@@ -1,6 +1,5 @@
 -- A node that passes the checks has the fields that it was read from.
-use Rattle.std.proofs.Common.{◌≡◌, ℕ, true, ◌&&◌, List, ℤ, pos, Some, None, arith}
-use lib.Signed.{le_z}
+use Rattle.std.proofs.Common.{◌≡◌, ℕ, true, ◌&&◌, List, ℤ, pos, Some, arith}
 use Rattle.std.proofs.lemmas.Bool.Decides.{nat_tests}
 use Rattle.std.proofs.lemmas.Int.{ints}
 use Rattle.sheet.specs.declared.form.Form.{Form}

@@ -1,12 +1,12 @@
 -- Reading one record after another.
-use Rattle.std.proofs.Common.{◌≡◌, ℕ, zero, suc, ◌+◌, ◌-◌, ◌<◌, ◌≤◌, Bool, true, false, cond, List, length, Some, None, Ok, Err, Option, Result, sym, refl, ap, ◌∙◌, arith}
+use Rattle.std.proofs.Common.{◌≡◌, ℕ, zero, suc, ◌-◌, ◌<◌, ◌≤◌, List, length, Ok, Err, Result, sym, refl, ◌∙◌, arith}
 use Rattle.std.proofs.lemmas.Bool.Decides.{nat_tests}
 use Rattle.faults.specs.declared.Place.{Place}
 use Rattle.faults.specs.declared.BytesFault.{BytesFault}
 use Rattle.faults.specs.declared.BytesFault.TheVariants.{Cut, UnknownMark}
 use Rattle.faults.specs.declared.SheetFault.{SheetFault}
 use Rattle.faults.specs.declared.SheetFault.TheVariants.{Bytes}
-use Rattle.records.specs.Records.{Sort, Part, Sight, end, cut, unknown, whole, size, front, marked, of_mark, of_size}
+use Rattle.records.specs.Records.{Part, Sight, end, cut, unknown, whole, front}
 use Rattle.records.specs.Handed.{Piece, start, offered, next_place, rest_of}
 use Rattle.records.proofs.Fronts.{length_front, size_least}
 use Rattle.sheet.specs.Content.{Content}

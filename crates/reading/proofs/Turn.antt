@@ -1,7 +1,6 @@
 -- One turn of reading: a record handed out and put in, or refused.
-use Rattle.std.proofs.Common.{◌≡◌, ℕ, ◌<◌, List, length, Ok, Err, Result, sym, refl, ap, ◌∙◌, subst, arith}
+use Rattle.std.proofs.Common.{◌≡◌, ℕ, ◌<◌, List, length, Ok, Err, Result, sym, subst}
 use Rattle.faults.specs.declared.Place.{Place}
-use Rattle.faults.specs.declared.BytesFault.{BytesFault}
 use Rattle.faults.specs.declared.SheetFault.{SheetFault}
 use Rattle.records.specs.Records.{front}
 use Rattle.records.specs.Handed.{Piece, offered, next_place, rest_of}

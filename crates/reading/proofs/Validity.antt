@@ -1,6 +1,6 @@
 -- What is read so far stays valid with each record more.
-use Rattle.std.proofs.Common.{◌≡◌, ℕ, ◌+◌, ◌<◌, ◌≤◌, Bool, true, false, cond, not, ◌&&◌, ◌||◌, eqb, ltb, leb, List, [], ◌∷◌, ◌++◌, length, get_or, take, pos, negsuc, Some, None, Ok, Err, Option, Result, sym, refl, ap, ◌∙◌, subst, ⊎_elim, arith}
-use Rattle.std.proofs.lemmas.List.{length_push, take-append-le, take_all, take_at, get_or_append_left, get_or_push}
+use Rattle.std.proofs.Common.{◌≡◌, ℕ, ◌<◌, ◌≤◌, Bool, true, false, cond, not, ◌&&◌, ◌||◌, eqb, ltb, leb, List, [], ◌∷◌, ◌++◌, length, get_or, take, pos, negsuc, Some, None, Ok, Err, Option, Result, sym, refl, subst, ⊎_elim, arith}
+use Rattle.std.proofs.lemmas.List.{length_push, take-append-le, take_at, get_or_append_left, get_or_push}
 use Rattle.std.proofs.lemmas.Bool.{cases_lt, and_parts, and_from, or_parts, leb-false, ltb-false, eq-eqb, le-leb}
 use Rattle.std.proofs.lemmas.Bool.Decides.{nat_tests}
 use Rattle.faults.specs.declared.Flaw.{Flaw}
@@ -17,9 +17,9 @@ use Rattle.sheet.specs.declared.form.Claim.{Claim}
 use Rattle.sheet.specs.declared.form.Rule.{Rule}
 use Rattle.sheet.specs.declared.form.Rule.TheVariants.{Plain, Conditional}
 use Rattle.sheet.specs.Content.{Content, Valid}
-use Rattle.sheet.specs.Kinds.{form_of, shape_of, fields_of}
-use Rattle.sheet.specs.Sound.{missing_node, missing_rule, there, of_sort, within, depth_of, sound_row, sound_node, sound_claim, sound_rule, Filled, SoundNodes, SoundRules}
-use Rattle.reading.specs.Decoding.{word, number_fits, node_fields, station_of, node_of_row, node_of_form, node_of_kind, node_of, rule_of_slots, rule_of_kind, rule_of, first_claim, second_claim}
+use Rattle.sheet.specs.Kinds.{form_of, shape_of}
+use Rattle.sheet.specs.Sound.{missing_node, missing_rule, there, of_sort, within, depth_of, sound_row, sound_node, sound_claim, sound_rule}
+use Rattle.reading.specs.Decoding.{word, number_fits, node_fields, station_of, node_of_row, node_of_form, node_of, rule_of_slots, rule_of, first_claim, second_claim}
 use Rattle.reading.specs.Reading.{nothing, with_station, with_node, with_rule, added, put}
 use Rattle.reading.proofs.Fields.{fields_same}
 

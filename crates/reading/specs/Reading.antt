@@ -5,7 +5,7 @@ use Rattle.faults.specs.declared.BytesFault.TheVariants.{Cut, UnknownMark}
 use Rattle.faults.specs.declared.Flaw.{Flaw}
 use Rattle.faults.specs.declared.SheetFault.{SheetFault}
 use Rattle.faults.specs.declared.SheetFault.TheVariants.{Bytes, Record, NoStation, Memory}
-use Rattle.records.specs.Records.{Part, Sort, station, node, rule, Sight, end, cut, unknown, whole, front}
+use Rattle.records.specs.Records.{Sort, station, node, rule, end, cut, unknown, whole, front}
 use Rattle.records.specs.Handed.{start, next_place}
 use Rattle.sheet.specs.declared.form.Node.{Node}
 use Rattle.sheet.specs.declared.form.Rule.{Rule}

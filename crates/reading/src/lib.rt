@@ -1,5 +1,6 @@
 // Reading a sheet: bytes in, a sheet or the first fault out.
 #![tactic(auto)]
+
 ghost use Rattle.std.specs.Prelude.{◌≡◌, Err, ◌≢◌};
 ghost use Rattle.faults.specs.declared.SheetFault.TheVariants.{Memory};
 ghost use Rattle.sheet.specs.Content.{Valid};

@@ -1,5 +1,5 @@
 -- Counting records one at a time.
-use Rattle.std.proofs.Common.{◌≡◌, ℕ, suc, ◌+◌, ◌-◌, ◌<◌, ◌≤◌, true, false, List, [], length, drop, is_ok, Some, None, Ok, Err, Option, Result, sym, refl, ap, ◌∙◌, add-zero, arith}
+use Rattle.std.proofs.Common.{◌≡◌, ℕ, suc, ◌+◌, ◌-◌, ◌<◌, ◌≤◌, true, false, List, length, drop, is_ok, None, Ok, Err, Result, sym, refl, ap, ◌∙◌, add-zero, arith}
 use Rattle.std.proofs.lemmas.List.{drop_all, drop-drop}
 use Rattle.std.proofs.lemmas.Bool.{true≢false, false≢true}
 use Rattle.std.specs.Result.{result_ok}
@@ -7,7 +7,7 @@ use Rattle.faults.specs.declared.Place.{Place}
 use Rattle.faults.specs.declared.BytesFault.{BytesFault}
 use Rattle.records.specs.declared.placed.Placed.{Placed}
 use Rattle.records.specs.Records.{Part, Sight, end, cut, unknown, whole, size, front}
-use Rattle.records.specs.Handed.{Piece, offered, first_byte, place_of, nth_from, next_place, rest_of, handed, found}
+use Rattle.records.specs.Handed.{offered, first_byte, place_of, nth_from, next_place, rest_of, handed, found}
 use Rattle.records.proofs.Fronts.{front_taken}
 
 module _ (i : ℕ) (at : Place) (bytes : List ℕ) (p : Part) (rest : List ℕ) (e : front bytes ≡ whole p rest) where

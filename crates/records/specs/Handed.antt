@@ -1,5 +1,5 @@
 -- Records handed out one at a time, with their places.
-use Rattle.std.specs.Prelude.{ℕ, zero, suc, ◌+◌, List, [], length, drop, Some, None, Ok, Err, Option, Result}
+use Rattle.std.specs.Prelude.{ℕ, zero, suc, ◌+◌, List, length, drop, Some, None, Ok, Err, Option, Result}
 use Rattle.std.specs.Result.{result_ok}
 use Rattle.faults.specs.declared.Place.{Place}
 use Rattle.faults.specs.declared.BytesFault.{BytesFault}

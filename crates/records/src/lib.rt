@@ -1,5 +1,6 @@
 // Bytes taken apart into records: a two-byte mark starts each, and its sort says how long it is.
 #![tactic(auto)]
+
 mod front;
 mod placed;
 mod reader;

@@ -1,5 +1,6 @@
 // Prints the report on the sheet that standard input holds.
 #![tactic(auto)]
+
 use reporting::{LIMIT, report as report_on};
 use std::io;
 use std::io::Read;

@@ -1,5 +1,6 @@
 // The report on a sheet of bytes: its counts, what its rules leave of its channels, and its first plan, or why it is refused.
 #![tactic(auto)]
+
 ghost use Rattle.std.specs.Prelude.{◌≡◌, ℕ, take, slice_index};
 
 mod lines;

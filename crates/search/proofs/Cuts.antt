@@ -1,5 +1,5 @@
 -- What cutting a station to one channel, and settling then, does to a store.
-use Rattle.std.proofs.Common.{◌≡◌, ℕ, suc, ◌^◌, ◌<◌, true, ◌⊎◌, List, length, set, sym, ◌∙◌, subst, ⊎_elim, arith, get_or-set_other, get_or-set_same, pow_pos}
+use Rattle.std.proofs.Common.{◌≡◌, ℕ, suc, ◌^◌, ◌<◌, true, List, length, set, sym, ◌∙◌, subst, ⊎_elim, arith, get_or-set_other, get_or-set_same, pow_pos}
 use lib.Pow.{pow-lt}
 use Rattle.masks.proofs.Sets.{one_subset, subset_one}
 use Rattle.masks.proofs.Tables.{inside_self, inside_through}

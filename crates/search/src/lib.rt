@@ -1,5 +1,6 @@
 // The search for plans: one channel for each station, so that every rule holds.
 #![tactic(auto)]
+
 ghost use Rattle.std.specs.Prelude.{◌≤◌, IfSome, vec_len};
 ghost use Rattle.masks.specs.Tables.{Choice, Fixed};
 

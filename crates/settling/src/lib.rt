@@ -1,5 +1,6 @@
 // Settling: the rules narrow the channels until no rule narrows them further.
 #![tactic(auto)]
+
 ghost use Rattle.std.specs.Prelude.{◌<◌, T, IfSome, vec_len};
 ghost use Rattle.masks.specs.Tables.{Inside, Store};
 ghost use Rattle.settling.specs.Store.{Narrows};

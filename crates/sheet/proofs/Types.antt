@@ -1,7 +1,6 @@
 -- What the type of sheets says of a sheet's content.
-use Rattle.std.proofs.Common.{◌≡◌, ◌≤◌, length, vec_items, vec_len, subst, arith}
-use Rattle.sheet.specs.Content.{Content, Valid, content}
-use Rattle.sheet.specs.Sound.{SoundNodes, SoundRules}
+use Rattle.std.proofs.Common.{◌≡◌, ◌≤◌, length, vec_items, vec_len}
+use Rattle.sheet.specs.Content.{Valid, content}
 use Rattle.sheet.specs.declared.valid.Sheet.{Sheet}
 
 pub valid : (s : Sheet) → Valid (content s)

@@ -1,5 +1,5 @@
 -- The table of kinds: for each kind of node what its bytes a and b stand for, and the limits of its number k.
-use Rattle.std.specs.Prelude.{ℕ, Bool, true, false, cond, ℤ, pos, negsuc, Some, None, Option, ◌==◌}
+use Rattle.std.specs.Prelude.{Bool, true, false, cond, pos, negsuc, Some, None, Option, ◌==◌}
 use Rattle.sheet.specs.declared.form.Form.{Form}
 use Rattle.sheet.specs.declared.form.Form.TheVariants.{Number, Station, Sum, Difference, Multiple, Quotient, Remainder, Between, AtLeast, AtMost, Channels, Union, Intersection, Complement, Shift}
 use Rattle.sheet.specs.declared.form.Slot.{Slot}

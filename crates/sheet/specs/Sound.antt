@@ -1,5 +1,5 @@
 -- When the nodes and rules of a sheet name only what is there, of the right sort and not too deep.
-use Rattle.std.specs.Prelude.{◌≡◌, ℕ, suc, ◌<◌, max, Bool, true, false, not, ◌&&◌, List, length, get_or, take, ℤ, pos, negsuc, ◌==◌, int_le, nat_le, nat_lt, slice_index, slice_index_or}
+use Rattle.std.specs.Prelude.{◌≡◌, ℕ, suc, ◌<◌, max, Bool, true, not, ◌&&◌, List, length, get_or, take, ℤ, pos, ◌==◌, int_le, nat_le, nat_lt, slice_index, slice_index_or}
 use Rattle.sheet.specs.Limits.{deepest}
 use Rattle.sheet.specs.Kinds.{shape_of, fields_of, is_term}
 use Rattle.sheet.specs.declared.form.Form.TheVariants.{Number}

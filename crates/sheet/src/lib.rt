@@ -1,5 +1,6 @@
 // A sheet: the channels that each station may use, and the rules about them.
 #![tactic(auto)]
+
 mod form;
 mod kinds;
 mod valid;

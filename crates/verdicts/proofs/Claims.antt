@@ -1,5 +1,5 @@
 -- The laws of judging, for claims.
-use Rattle.std.proofs.Common.{◌≡◌, ℕ, ◌<◌, Bool, true, false, not, ◌&&◌, ◌||◌, ◌⊎◌, List, ℤ, pos, sym, refl, ap, ◌∙◌, subst, ap₂, ⊎_elim}
+use Rattle.std.proofs.Common.{◌≡◌, ℕ, ◌<◌, Bool, true, false, not, ◌&&◌, ◌||◌, List, ℤ, pos, sym, refl, ap, ◌∙◌, subst, ap₂, ⊎_elim}
 use Rattle.judging.specs.Judged.{possible, certain}
 use Rattle.judging.specs.Laws.{RangeLaws}
 use Rattle.judging.specs.Nodes.{range_of}

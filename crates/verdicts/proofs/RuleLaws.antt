@@ -1,5 +1,5 @@
 -- The laws of rules, from those of claims.
-use Rattle.std.proofs.Common.{◌≡◌, ℕ, Bool, true, false, cond, ◌⊎◌, List, sym, refl, ap, ◌∙◌, ap₂, inl, inr, ⊎_elim}
+use Rattle.std.proofs.Common.{◌≡◌, ℕ, Bool, true, false, cond, List, sym, refl, ap, ◌∙◌, ap₂, inl, inr, ⊎_elim}
 use Rattle.judging.proofs.Laws.{judging_laws}
 use Rattle.judging.specs.Laws.{RangeLaws}
 use Rattle.judging.specs.Nodes.{has_range, range_of}

@@ -1,5 +1,6 @@
 // What given channels say of a sheet's rules, and what a rule leaves of them.
 #![tactic(auto)]
+
 mod known;
 mod rules;
 mod values;

@@ -1,16 +1,15 @@
 -- An accepted sheet is written back byte for byte.
-use Rattle.std.proofs.Common.{◌≡◌, ℕ, zero, suc, ◌+◌, ◌*◌, ◌/◌, ◌%◌, ◌^◌, ◌<◌, ◌≤◌, Bool, true, false, cond, not, ◌&&◌, ◌||◌, eqb, ltb, leb, List, [], ◌∷◌, ◌++◌, length, get_or, take, drop, pos, negsuc, Some, None, Ok, Err, Option, Result, sym, refl, ap, ◌∙◌, subst, arith, w16, to_z, of_z}
+use Rattle.std.proofs.Common.{◌≡◌, ℕ, zero, suc, ◌+◌, ◌*◌, ◌/◌, ◌%◌, ◌<◌, ◌≤◌, Bool, true, false, cond, ◌||◌, eqb, ltb, leb, List, [], ◌∷◌, ◌++◌, length, get_or, take, Some, None, Ok, Err, Option, sym, refl, ap, ◌∙◌, subst, arith, w16, to_z, of_z}
 use Rattle.std.proofs.lemmas.List.{append_assoc, append-nil, nil_from_length, get_or-take, length-take-le, take-append-drop}
 use Rattle.std.proofs.ByRecursion.{All-take, All-drop}
 use Rattle.std.proofs.lemmas.Bool.{and_parts, or_parts, eqb-true, ltb-false}
 use Rattle.std.proofs.lemmas.Bool.Decides.{nat_tests}
-use Rattle.std.specs.List.{flat_map, AllByRecursion as All}
+use Rattle.std.specs.List.{flat_map}
 use Rattle.faults.specs.declared.Place.{Place}
 use Rattle.faults.specs.declared.Flaw.{Flaw}
 use Rattle.faults.specs.declared.Flaw.TheVariants.{OutOfOrder, TooMany, NoChannel, UnknownKind}
-use Rattle.faults.specs.declared.SheetFault.{SheetFault}
 use Rattle.faults.specs.declared.SheetFault.TheVariants.{NoStation}
-use Rattle.records.specs.Records.{Sort, station, node, rule, Part, Sight, end, cut, unknown, whole, size, marked, front}
+use Rattle.records.specs.Records.{Sort, station, node, rule, Part, whole, size, front}
 use Rattle.records.specs.Handed.{start, next_place}
 use Rattle.records.proofs.Fronts.{front_taken, front-marked, length_front, size_least}
 use Rattle.sheet.specs.declared.form.Form.{Form}
@@ -24,7 +23,7 @@ use Rattle.sheet.specs.Kinds.{form_of, shape_of, fields_of}
 use Rattle.reading.specs.Decoding.{byte, word, node_fields, first_claim, second_claim, station_of, node_of_form, node_of, rule_of_slots, rule_of_kind, rule_of}
 use Rattle.reading.specs.Reading.{nothing, with_station, with_node, with_rule, added, finished, onto, reading}
 use Rattle.reading.proofs.Fields.{fields_same}
-use Rattle.reading.proofs.Onto.{Step, ended, broken, flawed, further, step}
+use Rattle.reading.proofs.Onto.{ended, broken, flawed, further, step}
 use Rattle.reading.proofs.Validity.{row_passed, slots_passed, guarded, put_granted}
 use Rattle.writing.proofs.Marks.{Marked, mark_bytes}
 use Rattle.writing.specs.Written.{station_bytes, fields_bytes, node_bytes, rule_bytes, written, Bytes, WrittenBack}

@@ -1,8 +1,8 @@
 -- Every valid sheet is read back from the bytes by which it is written.
-use Rattle.std.proofs.Common.{◌≡◌, ℕ, zero, suc, ◌+◌, ◌-◌, ◌*◌, ◌/◌, ◌%◌, ◌^◌, ◌<◌, ◌≤◌, max, Bool, true, false, cond, not, ◌&&◌, ◌||◌, eqb, ltb, leb, List, [], ◌∷◌, ◌++◌, length, get_or, take, drop, ℤ, pos, negsuc, Some, None, Ok, Err, Option, Result, sym, refl, ap, ◌∙◌, subst, arith, w16, SFits, to_z, of_z}
+use Rattle.std.proofs.Common.{◌≡◌, ℕ, suc, ◌+◌, ◌-◌, ◌*◌, ◌/◌, ◌%◌, ◌^◌, ◌<◌, ◌≤◌, Bool, true, false, cond, not, ◌&&◌, eqb, ltb, leb, List, [], ◌∷◌, ◌++◌, length, get_or, take, drop, ℤ, pos, negsuc, Some, Ok, Err, Option, Result, sym, refl, ap, ◌∙◌, arith, w16, to_z, of_z}
 use lib.Signed.{le_z}
 use Rattle.std.proofs.lemmas.List.{append_assoc, append-nil, length-append, get_or_append_left, take_at, drop_at, get_or_at}
-use Rattle.std.proofs.lemmas.Bool.{and_parts, and_from, eqb-true, ltb-true, leb-true, le-ltb}
+use Rattle.std.proofs.lemmas.Bool.{and_parts, and_from, leb-true, le-ltb}
 use Rattle.std.proofs.lemmas.Bool.Decides.{nat_tests}
 use Rattle.std.proofs.lemmas.Int.{ints, to_z-of_z}
 use Rattle.std.specs.List.{flat_map}
@@ -10,8 +10,8 @@ use Rattle.faults.specs.declared.Place.{Place}
 use Rattle.faults.specs.declared.Flaw.{Flaw}
 use Rattle.faults.specs.declared.Flaw.TheVariants.{NumberOutside, NotThere, WrongSort, TooDeep}
 use Rattle.faults.specs.declared.SheetFault.{SheetFault}
-use Rattle.records.specs.Records.{Sort, station, node, rule, Part, whole, size, marked, of_mark, of_size, front}
-use Rattle.records.specs.Handed.{start, next_place, offered, rest_of}
+use Rattle.records.specs.Records.{Sort, station, node, rule, Part, whole, size, front}
+use Rattle.records.specs.Handed.{start, next_place, offered}
 use Rattle.records.proofs.Fronts.{size_least}
 use Rattle.sheet.specs.declared.form.Form.{Form}
 use Rattle.sheet.specs.declared.form.Form.TheVariants.{Number, Station, Sum, Difference, Multiple, Quotient, Remainder, Between, AtLeast, AtMost, Channels, Union, Intersection, Complement, Shift}
@@ -25,9 +25,9 @@ use Rattle.sheet.specs.declared.form.Rule.TheVariants.{Plain, Conditional}
 use Rattle.sheet.specs.Content.{Content, Valid}
 use Rattle.sheet.proofs.Rows.{Row, row_of}
 use Rattle.sheet.specs.Kinds.{form_of, shape_of, fields_of}
-use Rattle.sheet.specs.Sound.{within, there, of_sort, depth_of, sound_row, sound_node, sound_claim, sound_rule, missing_node, missing_rule}
-use Rattle.reading.specs.Decoding.{byte, word, node_fields, number_fits, station_of, node_of_row, node_of_form, node_of_kind, node_of, rule_of_slots, rule_of_kind, rule_of}
-use Rattle.reading.specs.Reading.{nothing, with_station, with_node, with_rule, put, added, finished, onto, reading}
+use Rattle.sheet.specs.Sound.{within, there, of_sort, depth_of, sound_node, sound_claim, sound_rule, missing_node, missing_rule}
+use Rattle.reading.specs.Decoding.{byte, word, node_fields, number_fits, node_of_row, node_of_form, node_of_kind, node_of, rule_of_kind, rule_of}
+use Rattle.reading.specs.Reading.{with_station, with_node, with_rule, put, added, reading}
 use Rattle.reading.proofs.Onto.{Still, still_starts, still_ends, still_added}
 use Rattle.writing.proofs.Marks.{Marked}
 use Rattle.writing.specs.Written.{station_bytes, fields_bytes, node_bytes, rule_bytes, written, Words}

@@ -1,5 +1,6 @@
 // Writing a sheet back into bytes.
 #![tactic(auto)]
+
 ghost use Rattle.std.specs.Prelude.{◌≡◌, length};
 ghost use Rattle.sheet.specs.Content.{content};
 ghost use Rattle.writing.specs.Puts.{Writes};

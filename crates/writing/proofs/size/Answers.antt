@@ -1,4 +1,4 @@
-use Rattle.std.proofs.Common.{arith, rules}
+use Rattle.std.proofs.Common.{rules}
 use Rattle.sheet.specs.Content.{content}
 use Rattle.writing.proofs.Sizes.{written-size}
 use Rattle.writing.proofs.size.Goals as goal

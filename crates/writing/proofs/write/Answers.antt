@@ -1,4 +1,4 @@
-use Rattle.std.proofs.Common.{◌≡◌, length, vec_items, refl, ap, ◌∙◌, arith}
+use Rattle.std.proofs.Common.{◌≡◌, length, vec_items, refl, arith}
 use Rattle.std.specs.List.{flat_map}
 use Rattle.sheet.proofs.Types.{valid, some_station}
 use Rattle.sheet.specs.Content.{content}
