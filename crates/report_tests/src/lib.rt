@@ -8,13 +8,13 @@ mod refused;
 #[cfg(test)]
 mod reports;
 #[cfg(test)]
+mod rule_verdicts;
+#[cfg(test)]
 mod sets;
 #[cfg(test)]
 mod sheets;
 #[cfg(test)]
 mod signs;
-#[cfg(test)]
-mod verdicts;
 #[cfg(test)]
 mod wide;
 #[cfg(test)]

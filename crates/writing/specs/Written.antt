@@ -2,7 +2,7 @@
 use Rattle.std.specs.Prelude.{◌≡◌, ℕ, ◌/◌, ◌%◌, ◌^◌, ◌<◌, List, [], ◌∷◌, ◌++◌, length, Ok, slice_index}
 use Rattle.std.proofs.Common.{of_z}
 use Rattle.std.specs.Int.{w16}
-use Rattle.std.specs.List.{flat_map, AllByRecursion as All}
+use Rattle.std.specs.List.{flat_map, AllByRecursion}
 use Rattle.sheet.specs.declared.form.Fields.{Fields}
 use Rattle.sheet.specs.declared.form.Node.{Node}
 use Rattle.sheet.specs.declared.form.Rule.{Rule}
@@ -37,7 +37,7 @@ written c = flat_map station_bytes c.stations ++ (flat_map node_bytes c.nodes ++
 
 -- a byte is below 256
 abbrev pub Bytes : List ℕ → Type 0
-Bytes bs = All (λ b. b < 256) bs
+Bytes bs = AllByRecursion (λ b. b < 256) bs
 
 -- a station's word is below 2 ^ 64
 abbrev pub Words : List ℕ → Type 0
