@@ -1,12 +1,17 @@
 #!/usr/bin/env python3
 """Respells the names that the repository's own specs/ and proofs/ declare, as Rattle spells names today.
 
-usage: python3 tools/respell.py [--list]      at the top of the repository, once, after port.py
+usage: python3 tools/respell.py [--list]      at the top of the repository, once, right after port.py
+
+It was run once, and docs/PORT.md says on what; it is kept so that this step can be done again on the text from before.
+Don't run it on today's text: the two names of APART are those of ghost fields now.
 
 Types, and definitions whose values are types, become UpperCamelCase. Every other definition, field,
 constructor and lemma becomes snake_case; in a lemma's name a dash stays where it joins two names, as
-in has-those. Names of functions in src/, strings, inputs and outputs keep their spelling, as do names
-that Rattle makes (goals, invariants, measures). With --list nothing is written: the names are printed.
+in has-those (not for lemmas that stand indented, below a module line). It goes by words: each word of
+an .antt file, and of the ghost lines of an .rt file, that is such a name is turned, also where it stands
+for something else. Names of functions in src/, strings, inputs and outputs keep their spelling. With
+--list nothing is written: the names are printed.
 """
 
 import os
