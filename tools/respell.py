@@ -10,8 +10,10 @@ Types, and definitions whose values are types, become UpperCamelCase. Every othe
 constructor and lemma becomes snake_case; in a lemma's name a dash stays where it joins two names, as
 in has-those (not for lemmas that stand indented, below a module line). It goes by words: each word of
 an .antt file, and of the ghost lines of an .rt file, that is such a name is turned, also where it stands
-for something else. Names of functions in src/, strings, inputs and outputs keep their spelling. With
---list nothing is written: the names are printed.
+for something else. It leaves alone the lines of an .rt file that hold no ghost text and no "{ ", and all
+other files; it has no notion of strings and comments, and none that stood in its way had such a name.
+Names that fall together are told, and nothing stops for them. With --list nothing is written: the names
+are printed.
 """
 
 import os
