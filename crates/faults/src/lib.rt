@@ -1,12 +1,15 @@
 // What may be wrong with a sheet or a call: a fault type a layer, each carrying the layer below it whole.
 #![tactic(auto)]
 
-ghost use Rattle.std.specs.Prelude.{◌≡◌};
+ghost use Rattle.std.specs.Prelude.{◌≡◌, Some};
 ghost use Rattle.faults.specs.Told.{told_at, number_of, told_bytes, told_sheet, told_plan};
+ghost use Rattle.faults.specs.Text.{layer_text, place_text, told_text};
 ghost use Rattle.faults.specs.declared.SheetFault.TheVariants.{Bytes, Memory};
 ghost use Rattle.faults.specs.declared.PlanFault.TheVariants.{Sheet};
 
 use std::alloc::AllocError;
+use std::error::Error;
+use std::fmt;
 
 // Where a fault stands: the record's number, counted through all sorts from 0, and its first byte.
 #[derive(Clone, Copy, Debug, PartialEq, Eq)]
@@ -164,3 +167,71 @@ impl PlanFault {
         }
     }
 }
+
+impl fmt::Display for Layer {
+    ghost output = { λ layer. Some (layer_text layer) };
+
+    fn fmt<W: fmt::Write>(&self, f: &mut fmt::Formatter<W>) -> fmt::Result {
+        f.write_str(match self {
+            Layer::Bytes => "bytes",
+            Layer::Sheet => "sheet",
+            Layer::Plan => "plan",
+            Layer::Machine => "machine",
+        })
+    }
+}
+
+impl fmt::Display for Place {
+    ghost output = { λ place. Some (place_text place) };
+
+    fn fmt<W: fmt::Write>(&self, f: &mut fmt::Formatter<W>) -> fmt::Result {
+        let Place { record, byte } = *self;
+        write!(f, "record {record} byte {byte}")
+    }
+}
+
+impl fmt::Display for Told {
+    ghost output = { λ told. Some (told_text told) };
+
+    fn fmt<W: fmt::Write>(&self, f: &mut fmt::Formatter<W>) -> fmt::Result {
+        let Told {
+            number,
+            layer,
+            place,
+        } = *self;
+        match place {
+            Some(place) => write!(f, "{number} layer {layer} {place}"),
+            None => write!(f, "{number} layer {layer}"),
+        }
+    }
+}
+
+impl fmt::Display for BytesFault {
+    ghost output = { λ fault. Some (told_text (told_bytes fault)) };
+
+    fn fmt<W: fmt::Write>(&self, f: &mut fmt::Formatter<W>) -> fmt::Result {
+        write!(f, "{}", self.told())
+    }
+}
+
+impl fmt::Display for SheetFault {
+    ghost output = { λ fault. Some (told_text (told_sheet fault)) };
+
+    fn fmt<W: fmt::Write>(&self, f: &mut fmt::Formatter<W>) -> fmt::Result {
+        write!(f, "{}", self.told())
+    }
+}
+
+impl fmt::Display for PlanFault {
+    ghost output = { λ fault. Some (told_text (told_plan fault)) };
+
+    fn fmt<W: fmt::Write>(&self, f: &mut fmt::Formatter<W>) -> fmt::Result {
+        write!(f, "{}", self.told())
+    }
+}
+
+impl Error for BytesFault {}
+
+impl Error for SheetFault {}
+
+impl Error for PlanFault {}
