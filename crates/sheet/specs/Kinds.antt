@@ -1,11 +1,13 @@
 -- The table of kinds: for each kind of node what its bytes a and b stand for, and the limits of its number k.
-use Rattle.std.specs.Prelude.{Bool, true, false, cond, pos, negsuc, Some, None, Option, ◌==◌}
+use Rattle.std.specs.Prelude.{ℕ, Bool, true, false, cond, List, pos, negsuc, Some, None, Option, Ok, Err, Result, ◌++◌, ◌==◌, codes}
+use Rattle.std.specs.Fmt.{decimal}
 use Rattle.sheet.specs.declared.form.Form.{Form}
 use Rattle.sheet.specs.declared.form.Form.TheVariants.{Number, Station, Sum, Difference, Multiple, Quotient, Remainder, Between, AtLeast, AtMost, Channels, Union, Intersection, Complement, Shift}
 use Rattle.sheet.specs.declared.form.Slot.{Slot}
 use Rattle.sheet.specs.declared.form.Slot.TheVariants as slot
 use Rattle.sheet.specs.declared.form.Shape.{Shape}
 use Rattle.sheet.specs.declared.form.Fields.{Fields}
+use Rattle.sheet.specs.declared.kinds.UnknownKind.{UnknownKind}
 
 -- what bytes a and b stand for, where k is 0
 abbrev row : Slot → Slot → Shape
@@ -83,3 +85,15 @@ form_of f =
     (cond (f.kind == 21) (Some (Intersection f.a f.b))
     (cond (f.kind == 22) (Some (Complement f.a))
     (cond (f.kind == 23) (Some (Shift f.a f.b)) None))))))))))))))
+
+-- that node, or that its kind is unknown
+abbrev pub known_form : Fields → Result Form UnknownKind
+known_form f =
+    elim (form_of f) [
+      | Some x ↦ Ok x
+      | None ↦ Err (record { 0 = f.kind })
+    ]
+
+-- how an unknown kind is printed
+abbrev pub unknown_text : UnknownKind → List ℕ
+unknown_text u = codes "no kind of node has the number " ++ decimal u.0

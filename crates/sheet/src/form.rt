@@ -44,7 +44,7 @@ pub enum Rule {
 }
 
 // What a byte of a record stands for: nothing (it has to be 0), a station, a term's node or a range's.
-#[derive(Clone, Copy)]
+#[derive(Clone, Copy, Debug, PartialEq, Eq)]
 pub enum Slot {
     Nothing,
     Station,
@@ -53,7 +53,7 @@ pub enum Slot {
 }
 
 // The row of a kind in the table of kinds: what its two bytes stand for, and the limits of its number.
-#[derive(Clone, Copy)]
+#[derive(Clone, Copy, Debug, PartialEq, Eq)]
 pub struct Shape {
     pub a: Slot,
     pub b: Slot,
@@ -62,7 +62,7 @@ pub struct Shape {
 }
 
 // The fields of a node's record: its kind, two bytes and a number.
-#[derive(Clone, Copy)]
+#[derive(Clone, Copy, Debug, PartialEq, Eq)]
 pub struct Fields {
     pub kind: u8,
     pub a: u8,

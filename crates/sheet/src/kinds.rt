@@ -1,8 +1,10 @@
 // The table of kinds: which node a record's fields are, and which fields a node has.
-ghost use Rattle.std.specs.Prelude.{◌≡◌, pos};
-ghost use Rattle.sheet.specs.Kinds.{form_of, fields_of, is_term, shape_of};
+ghost use Rattle.std.specs.Prelude.{◌≡◌, Some, pos};
+ghost use Rattle.sheet.specs.Kinds.{known_form, fields_of, is_term, shape_of, unknown_text};
 
 use crate::form::{Fields, Form, Shape, Slot};
+use std::error::Error;
+use std::fmt;
 
 impl Shape {
     // A kind without a number: it has to be 0.
@@ -18,37 +20,55 @@ impl Shape {
     }
 }
 
-impl Form {
-    // The node whose record has these fields, if its kind is known.
-    pub fn new(fields: Fields) -> Option<Form>
-        ensures { result ≡ form_of fields }
-    {
-        let Fields { kind, a, b, k } = fields;
-        match kind {
-            0 => Some(Form::Number(k)),
-            1 => Some(Form::Station(a)),
-            2 => Some(Form::Sum(a, b)),
-            3 => Some(Form::Difference(a, b)),
-            4 => Some(Form::Multiple(k, a)),
-            5 => Some(Form::Quotient(a, k)),
-            6 => Some(Form::Remainder(a, k)),
-            16 => Some(Form::Between(a, b)),
-            17 => Some(Form::AtLeast(a)),
-            18 => Some(Form::AtMost(a)),
-            19 => Some(Form::Channels(a)),
-            20 => Some(Form::Union(a, b)),
-            21 => Some(Form::Intersection(a, b)),
-            22 => Some(Form::Complement(a)),
-            23 => Some(Form::Shift(a, b)),
-            _ => None,
-        }
-    }
+// The number of no kind of node.
+#[derive(Clone, Copy, Debug, PartialEq, Eq)]
+pub struct UnknownKind(pub u8);
 
-    // The fields of the node's record.
-    pub fn fields(&self) -> Fields
-        ensures { result ≡ fields_of self.now }
-    {
-        let (kind, a, b, k) = match *self {
+impl fmt::Display for UnknownKind {
+    ghost output = { λ unknown. Some (unknown_text unknown) };
+
+    fn fmt<W: fmt::Write>(&self, f: &mut fmt::Formatter<W>) -> fmt::Result {
+        write!(f, "no kind of node has the number {}", self.0)
+    }
+}
+
+impl Error for UnknownKind {}
+
+// The node whose record has these fields, if its kind is known.
+impl TryFrom<Fields> for Form {
+    type Error = UnknownKind;
+
+    ghost try_from_gives = { λ fields result. result ≡ known_form fields };
+
+    fn try_from(fields: Fields) -> Result<Form, UnknownKind> {
+        let Fields { kind, a, b, k } = fields;
+        Ok(match kind {
+            0 => Form::Number(k),
+            1 => Form::Station(a),
+            2 => Form::Sum(a, b),
+            3 => Form::Difference(a, b),
+            4 => Form::Multiple(k, a),
+            5 => Form::Quotient(a, k),
+            6 => Form::Remainder(a, k),
+            16 => Form::Between(a, b),
+            17 => Form::AtLeast(a),
+            18 => Form::AtMost(a),
+            19 => Form::Channels(a),
+            20 => Form::Union(a, b),
+            21 => Form::Intersection(a, b),
+            22 => Form::Complement(a),
+            23 => Form::Shift(a, b),
+            _ => return Err(UnknownKind(kind)),
+        })
+    }
+}
+
+// The fields of a node's record.
+impl From<Form> for Fields {
+    ghost from_gives = { λ form fields. fields ≡ fields_of form };
+
+    fn from(form: Form) -> Fields {
+        let (kind, a, b, k) = match form {
             Form::Number(k) => (0, 0, 0, k),
             Form::Station(a) => (1, a, 0, 0),
             Form::Sum(a, b) => (2, a, b, 0),
@@ -67,42 +87,44 @@ impl Form {
         };
         Fields { kind, a, b, k }
     }
+}
 
+impl Form {
     // Whether the node is a term; the others are ranges.
     pub fn is_term(&self) -> bool
         ensures { result ≡ is_term self.now }
     {
-        match *self {
-            Form::Number(_) | Form::Station(_) | Form::Sum(..) | Form::Difference(..) => true,
-            Form::Multiple(..) | Form::Quotient(..) | Form::Remainder(..) => true,
-            Form::Between(..) | Form::AtLeast(_) | Form::AtMost(_) | Form::Channels(_) => false,
-            Form::Union(..) | Form::Intersection(..) | Form::Complement(_) | Form::Shift(..) =>
-                false,
-        }
+        matches!(
+            self,
+            Form::Number(_)
+                | Form::Station(_)
+                | Form::Sum(..)
+                | Form::Difference(..)
+                | Form::Multiple(..)
+                | Form::Quotient(..)
+                | Form::Remainder(..)
+        )
     }
 
     // The node's row in the table.
     pub fn shape(&self) -> Shape
         ensures { result ≡ shape_of self.now }
     {
-        match *self {
+        match self {
             Form::Number(_) => Shape {
-                a: Slot::Nothing,
-                b: Slot::Nothing,
                 least: -1000,
                 greatest: 1000,
+                ..Shape::plain(Slot::Nothing, Slot::Nothing)
             },
             Form::Multiple(..) => Shape {
-                a: Slot::Term,
-                b: Slot::Nothing,
                 least: -16,
                 greatest: 16,
+                ..Shape::plain(Slot::Term, Slot::Nothing)
             },
             Form::Quotient(..) | Form::Remainder(..) => Shape {
-                a: Slot::Term,
-                b: Slot::Nothing,
                 least: 1,
                 greatest: 64,
+                ..Shape::plain(Slot::Term, Slot::Nothing)
             },
             Form::Station(_) | Form::Channels(_) => Shape::plain(Slot::Station, Slot::Nothing),
             Form::Sum(..) | Form::Difference(..) | Form::Between(..) => Shape::plain(

@@ -6,4 +6,5 @@ mod kinds;
 mod valid;
 
 pub use form::{Claim, Fields, Form, Node, Rule, Shape, Slot};
+pub use kinds::UnknownKind;
 pub use valid::{DEEPEST, MOST_NODES, MOST_RULES, MOST_STATIONS, Sheet};

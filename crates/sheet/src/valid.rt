@@ -12,7 +12,7 @@ pub const MOST_NODES: usize = 255;
 
 pub const MOST_RULES: usize = 255;
 
-pub const DEEPEST: u16 = 8;
+pub const DEEPEST: u8 = 8;
 
 // A sheet that keeps the limits, whose stations have a channel each, and whose nodes and rules name only what is there, of the right sort and not too deep.
 #[derive(Drop)]
