@@ -1,9 +1,16 @@
 -- What it says that a whole record stands at the front.
-use Rattle.std.proofs.Common.{◌≡◌, ℕ, ◌+◌, ◌<◌, ◌≤◌, Bool, true, false, cond, eqb, ltb, List, length, get_or, take, drop, Some, None, Ok, Option, sym, refl, ap, ◌∙◌, arith}
+use Rattle.std.proofs.Common.{◌≡◌, ℕ, ◌+◌, ◌<◌, ◌≤◌, Bool, true, false, cond, eqb, ltb, List, length, get_or, take, drop, Some, None, Ok, Err, Option, Result, sym, refl, ap, ◌∙◌, arith}
 use Rattle.std.proofs.lemmas.Bool.Decides.{nat_tests}
 use Rattle.std.proofs.lemmas.List.{length-drop, length-take-le}
 use Rattle.faults.specs.declared.Place.{Place}
-use Rattle.records.specs.Handed.{Piece, offered, rest_of}
+use Rattle.std.specs.Bool.{⊤}
+use Rattle.std.specs.Iterator.{MakesProgress, at_most}
+use Rattle.std.specs.Result.{result_ok}
+use Rattle.faults.specs.declared.BytesFault.{BytesFault}
+use Rattle.records.specs.declared.front.Placed.{Placed}
+use Rattle.records.specs.declared.reader.Reader.{Reader}
+use Rattle.records.specs.Hands.{Hands}
+use Rattle.records.specs.Handed.{Piece, piece, offered, rest_of}
 use Rattle.records.specs.Records.{Sort, station, node, rule, Part, Sight, end, cut, unknown, whole, size, front, of_size, of_mark, marked}
 
 -- at a whole record: it is the first bytes, the rest is behind it, and it has its sort's size
@@ -76,3 +83,16 @@ offered-at at bytes (whole p rest) q f e =
 
 pub offered_whole : (at : Place) (bytes : List ℕ) (q : Piece) → Ok q ≡ offered at (front bytes) → Whole at bytes (front bytes) q
 offered_whole at bytes q e = offered-at at bytes (front bytes) q refl (sym e)
+
+pub length_next : (bytes : List ℕ) (p : Part) (rest : List ℕ) → whole p rest ≡ front bytes → (size p.sort + length rest ≡ length bytes) × (7 ≤ size p.sort)
+length_next bytes p rest e = (length_front bytes p rest (sym e), size_least p.sort)
+
+-- a reader that hands out a record is nearer to the end
+pub nearer : (s t : Reader) (r : Option Placed) → Hands s r t → MakesProgress (λ _. ⊤) (λ (s : Reader). at_most (length s.rest.now)) s r t
+nearer s t None h = record { on = λ _. tt; keeps = tt; rests = λ _. tt }
+nearer s t (Some x) h =
+    record { on = λ _. (tt, tt, rw h.rest (offered_whole s.place s.rest.now (piece x) (ok_same (offered s.place (front s.rest.now)) h.value)).less); keeps = tt; rests = λ _. tt }
+  where
+    ok_same : (o : Result Piece BytesFault) → Some (piece x) ≡ result_ok o → Ok (piece x) ≡ o
+    ok_same (Ok q) e = cc
+    ok_same (Err e) h = cc

@@ -5,7 +5,7 @@ use Rattle.faults.specs.declared.Place.{Place}
 use Rattle.faults.specs.declared.BytesFault.{BytesFault}
 use Rattle.faults.specs.declared.BytesFault.TheVariants.{Cut, UnknownMark}
 use Rattle.records.specs.Records.{Part, Sight, end, cut, unknown, whole, size, front, part}
-use Rattle.records.specs.declared.placed.Placed.{Placed}
+use Rattle.records.specs.declared.front.Placed.{Placed}
 
 -- the first record's place
 abbrev pub start : Place

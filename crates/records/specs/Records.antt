@@ -1,9 +1,10 @@
 -- What some bytes hold as records.
-use Rattle.std.specs.Prelude.{ℕ, cond, ◌&&◌, List, length, take, drop, Some, None, Option, ◌==◌, nat_lt, slice_index}
+use Rattle.std.specs.Prelude.{ℕ, cond, ◌&&◌, List, length, take, drop, Some, None, Ok, Err, Option, Result, ◌==◌, nat_lt, slice_index}
+use Rattle.std.specs.Borrow.{Bor}
 use Rattle.records.specs.declared.front.Record.{Record}
 use Rattle.records.specs.declared.front.Record.TheVariants.{Station, Node, Rule}
-use Rattle.records.specs.declared.front.Front.{Front}
-use Rattle.records.specs.declared.front.Front.TheVariants.{End, Cut, UnknownMark, Whole}
+use Rattle.records.specs.declared.front.NoRecord.{NoRecord}
+use Rattle.records.specs.declared.front.NoRecord.TheVariants.{End, Cut, UnknownMark}
 
 -- the sorts of record
 pub data Sort : Type 0 where
@@ -55,8 +56,8 @@ part (Node p) = record { sort = node; bytes = p.now }
 part (Rule p) = record { sort = rule; bytes = p.now }
 
 -- what an answer of the code says
-abbrev pub seen : Front → Sight
-seen End = end
-seen Cut = cut
-seen UnknownMark = unknown
-seen (Whole r rest) = whole (part r) rest.now
+abbrev pub seen : Result (Record × Bor (List ℕ)) NoRecord → Sight
+seen (Err End) = end
+seen (Err Cut) = cut
+seen (Err UnknownMark) = unknown
+seen (Ok p) = whole (part p.0) p.1.now

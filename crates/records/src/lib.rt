@@ -2,9 +2,7 @@
 #![tactic(auto)]
 
 mod front;
-mod placed;
 mod reader;
 
-pub use front::{Front, Record, split};
-pub use placed::{Placed, Reader};
-pub use reader::record_at;
+pub use front::{NoRecord, Placed, Record, split};
+pub use reader::{Reader, record_at};

@@ -1,22 +1,31 @@
 // Records handed out one at a time, each with its place.
-ghost use Rattle.std.specs.Prelude.{◌≡◌, ◌+◌, ◌^◌, ◌<◌, ◌≤◌, length, ◌==◌};
-ghost use Rattle.records.specs.Records.{front, part, size};
+ghost use Rattle.std.specs.Prelude.{◌≡◌, ◌+◌, ◌^◌, ◌<◌, ◌≤◌, Err, length, ◌==◌};
+ghost use Rattle.std.specs.Iterator.{at_most};
+ghost use Rattle.records.specs.Records.{front, seen};
 ghost use Rattle.records.specs.Handed.{start, handed, offered, rest_of, next_place, found, nth_record};
 
-use crate::front::{Front, Record, split};
-use crate::placed::{Placed, Reader};
+use crate::front::{NoRecord, Placed, Record, split};
 use faults::{BytesFault, Place};
 
-impl Record<'_> {
-    // How many bytes the record has, its mark included.
-    fn len(&self) -> usize
-        ensures { result ≡ size (part self.now).sort }
+impl NoRecord {
+    // The fault that is told at a place; at the end of the bytes a record is cut off.
+    fn at(self, place: Place) -> BytesFault
+        ensures { Err result ≡ offered place (seen (Err self)) }
     {
         match self {
-            Record::Station(_) => 10,
-            Record::Node(_) | Record::Rule(_) => 7,
+            NoRecord::End | NoRecord::Cut => BytesFault::Cut(place),
+            NoRecord::UnknownMark => BytesFault::UnknownMark(place),
         }
     }
+}
+
+// What is left of some bytes, and the place of the next record.
+#[derive(Clone, Copy)]
+pub struct Reader<'a> {
+    pub rest: &'a [u8],
+    pub place: Place,
+    ghost within: { place.byte + length rest.now < 2 ^ 64 },
+    ghost counted: { place.«record» ≤ place.byte },
 }
 
 impl<'a> Reader<'a> {
@@ -37,24 +46,37 @@ impl<'a> Reader<'a> {
     }
 
     // The next record; at the end of the bytes there is none, and it is cut off.
+    #[tactic(auto, using(crate::proofs::Fronts::length_next))]
     pub fn next_record(&mut self) -> Result<Placed<'a>, BytesFault>
         ensures value { handed result ≡ offered self.old.place (front self.old.rest.now) }
         ensures rest { self.new.rest.now ≡ rest_of self.old.rest.now (front self.old.rest.now) }
         ensures place { self.new.place ≡ next_place self.old.place (front self.old.rest.now) }
     {
         let place = self.place;
-        match split(self.rest) {
-            Front::End | Front::Cut => Err(BytesFault::Cut(place)),
-            Front::UnknownMark => Err(BytesFault::UnknownMark(place)),
-            Front::Whole(record, rest) => {
-                let next = Place {
-                    record: place.record + 1,
-                    byte: place.byte + record.len(),
-                };
-                *self = Reader { rest, place: next };
-                Ok(Placed { record, place })
-            }
-        }
+        let (record, rest) = split(self.rest).map_err(|none| none.at(place))?;
+        *self = Reader {
+            rest,
+            place: Place {
+                byte: place.byte + record.len(),
+                record: place.record + 1,
+            },
+        };
+        Ok(Placed { record, place })
+    }
+}
+
+// The records one after another, up to the end of the bytes, a cut or an unknown mark.
+impl<'a> Iterator for Reader<'a> {
+    ghost use Rattle.records.specs.Hands.{Hands};
+
+    type Item = Placed<'a>;
+
+    ghost next_gives = { Hands };
+
+    ghost remaining = { λ s. at_most (length s.rest.now) };
+
+    fn next(&mut self) -> Option<Placed<'a>> {
+        self.next_record().ok()
     }
 }
 
@@ -62,11 +84,5 @@ impl<'a> Reader<'a> {
 pub fn record_at(bytes: &[u8], number: usize) -> Option<Placed<'_>>
     ensures { found result ≡ nth_record number bytes.now }
 {
-    let mut reader = Reader::new(bytes);
-    let mut left = number;
-    while left > 0 {
-        reader.next_record().ok()?;
-        left -= 1;
-    }
-    reader.next_record().ok()
+    Reader::new(bytes).nth(number)
 }
