@@ -5,10 +5,9 @@ use Rattle.faults.specs.declared.SheetFault.{SheetFault}
 use Rattle.records.specs.Records.{front}
 use Rattle.records.specs.Handed.{Piece, offered, next_place, rest_of}
 use Rattle.records.proofs.Fronts.{offered_whole}
-use Rattle.sheet.specs.Content.{Content, Valid}
+use Rattle.sheet.specs.Content.{Content}
 use Rattle.reading.specs.Reading.{added}
 use Rattle.reading.proofs.Onto.{Still, still_flawed, still_added}
-use Rattle.reading.proofs.Validity.{added_valid}
 
 module _
     (c : Content) (at : Place) (bytes : List ℕ) (x : Result Content SheetFault) (q : Piece)
@@ -17,11 +16,8 @@ module _
   at_place r e = subst (λ (p : Place). added c q.part.sort q.part.bytes p ≡ r) (offered_whole at bytes q h).here e
 
   -- a record that is put in
-  pub turn_added : (d : Content) → Valid c → added c q.part.sort q.part.bytes q.place ≡ Ok d → Still d (next_place at (front bytes)) (rest_of bytes (front bytes)) x × Valid d
-  turn_added d v e = (
-    still_added c at bytes x more q d s (sym h) (at_place (Ok d) e),
-    added_valid c q.part.sort q.part.bytes q.place d v e,
-  )
+  pub turn_added : (d : Content) → added c q.part.sort q.part.bytes q.place ≡ Ok d → Still d (next_place at (front bytes)) (rest_of bytes (front bytes)) x
+  turn_added d e = still_added c at bytes x more q d s (sym h) (at_place (Ok d) e)
 
   -- one that is refused
   pub turn_refused : (e : SheetFault) → added c q.part.sort q.part.bytes q.place ≡ Err e → x ≡ Err e

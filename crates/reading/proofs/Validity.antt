@@ -136,7 +136,7 @@ granted_word part x e = by_word (word part) e
     by_word : (w : ℕ) → cond (eqb w 0) (Err NoChannel) (Ok w) ≡ Ok x → 0 < x
     by_word w h = grind (arith, nat_tests)
 
-station_valid : (c : Content) (part : List ℕ) (x : ℕ) → Valid c → station_of c part ≡ Ok x → Valid (with_station c x)
+pub station_valid : (c : Content) (part : List ℕ) (x : ℕ) → Valid c → station_of c part ≡ Ok x → Valid (with_station c x)
 station_valid c part x v e =
     let g = guarded (ltb 0 (length c.nodes) || ltb 0 (length c.rules)) (leb 32 (length c.stations)) OutOfOrder TooMany _ x e in
     let none = or_parts (ltb 0 (length c.nodes)) (ltb 0 (length c.rules)) g.0 in
@@ -151,7 +151,7 @@ station_valid c part x v e =
       rules_sound = λ i lt. absurd (omega arith);
     }
 
-node_valid : (c : Content) (part : List ℕ) (x : Node) → Valid c → node_of c part ≡ Ok x → Valid (with_node c x)
+pub node_valid : (c : Content) (part : List ℕ) (x : Node) → Valid c → node_of c part ≡ Ok x → Valid (with_node c x)
 node_valid c part x v e =
     let g = guarded (ltb 0 (length c.rules)) (leb 255 (length c.nodes)) OutOfOrder TooMany _ x e in
     let no-rules = ltb-false 0 (length c.rules) g.0 in
@@ -166,7 +166,7 @@ node_valid c part x v e =
       rules_sound = λ i lt. absurd (omega arith);
     }
 
-rule_valid : (c : Content) (part : List ℕ) (x : Rule) → Valid c → rule_of c part ≡ Ok x → Valid (with_rule c x)
+pub rule_valid : (c : Content) (part : List ℕ) (x : Rule) → Valid c → rule_of c part ≡ Ok x → Valid (with_rule c x)
 rule_valid c part x v e =
     let g = guarded false (leb 255 (length c.rules)) OutOfOrder TooMany _ x e in
     record {

@@ -1,56 +1,48 @@
-// One record more.
-ghost use Rattle.std.specs.Prelude.{◌≡◌, ◌<◌, ◌≤◌, true, length, is_ok, vec_len, vec_capacity};
-ghost use Rattle.records.specs.Records.{part as part_of, size, station, node, rule};
+// What was read so far, and one record more.
+ghost use Rattle.std.specs.Prelude.{◌≡◌, ◌<◌, ◌≤◌, true, is_ok, vec_len, vec_capacity};
+ghost use Rattle.sheet.specs.Content.{Valid};
 ghost use Rattle.sheet.specs.Limits.{most_stations, most_nodes, most_rules};
-ghost use Rattle.reading.specs.Drafts.{drafted, Adds, Puts};
-ghost use Rattle.reading.specs.Reading.{nothing, added};
-ghost use Rattle.reading.specs.Decoding.{station_of, node_of, rule_of};
 
-use crate::decode::{node, rule, word};
-use crate::room::{Draft, Room};
+use crate::earlier::{Earlier, word};
 use faults::{Flaw, Place, SheetFault};
 use records::{Placed, Record};
-use sheet::{MOST_NODES, MOST_RULES, MOST_STATIONS, Node, Rule};
+use sheet::{MOST_NODES, MOST_RULES, MOST_STATIONS, Node, Rule, Sheet};
 
-// What a record says is put in, or what is wrong with it is told at its place.
-fn put<T>(items: &mut Vec<T>, found: Result<T, Flaw>, place: Place) -> Result<(), SheetFault>
-    requires { is_ok found ≡ true → vec_len items.old < vec_capacity items.old }
-    ensures puts { Puts found place items.old.items items.new.items result }
-    ensures capacity { vec_capacity items.new ≡ vec_capacity items.old }
-{
-    match found {
-        Ok(item) => {
-            items.push_reserved(item);
-            Ok(())
-        }
-        Err(flaw) => Err(SheetFault::Record(flaw, place)),
-    }
+// What was read so far, with room for the rest. It is a sheet but for the station that it may still lack.
+#[derive(Drop)]
+pub(crate) struct Draft {
+    pub(crate) stations: Vec<u64>,
+    pub(crate) nodes: Vec<Node>,
+    pub(crate) rules: Vec<Rule>,
+    ghost valid: { Valid (record { stations = stations.items; nodes = nodes.items; rules = rules.items }) },
+    ghost stations_fit: { most_stations ≤ vec_capacity stations },
+    ghost nodes_fit: { most_nodes ≤ vec_capacity nodes },
+    ghost rules_fit: { most_rules ≤ vec_capacity rules },
 }
 
 impl Draft {
-    // Nothing is read yet.
-    pub(crate) fn new(room: Room) -> Draft
-        ensures { drafted result ≡ nothing }
+    ghost use Rattle.records.specs.Records.{part as part_of};
+    ghost use Rattle.reading.specs.Decoding.{station_of, node_of, rule_of};
+    ghost use Rattle.reading.specs.Drafts.{drafted, Adds};
+    ghost use Rattle.reading.specs.Reading.{added, finished, Reads};
+
+    // What the next record finds before it.
+    fn earlier(&self) -> Earlier<'_>
+        ensures stations { result.stations ≡ vec_len self.now.stations }
+        ensures nodes { result.nodes.now ≡ self.now.nodes.items }
     {
-        let Room {
-            stations,
-            nodes,
-            rules,
-        } = room;
-        Draft {
-            stations,
-            nodes,
-            rules,
+        Earlier {
+            stations: self.stations.len(),
+            nodes: self.nodes.as_slice(),
         }
     }
 
     // The channels of a station's record.
-    fn station(&self, part: &[u8]) -> Result<u64, Flaw>
-        requires { length part.now ≡ 10 }
+    fn station(&self, part: &[u8; 10]) -> Result<u64, Flaw>
         ensures value { result ≡ station_of (drafted self.now) part.now }
         ensures room { is_ok result ≡ true → vec_len self.now.stations < most_stations }
     {
-        if self.nodes.len() > 0 || self.rules.len() > 0 {
+        if !self.nodes.is_empty() || !self.rules.is_empty() {
             return Err(Flaw::OutOfOrder);
         }
         if self.stations.len() >= MOST_STATIONS {
@@ -64,51 +56,68 @@ impl Draft {
     }
 
     // The node of a node's record.
-    fn node(&self, part: &[u8]) -> Result<Node, Flaw>
-        requires { length part.now ≡ 7 }
+    fn node(&self, part: &[u8; 7]) -> Result<Node, Flaw>
         ensures value { result ≡ node_of (drafted self.now) part.now }
         ensures room { is_ok result ≡ true → vec_len self.now.nodes < most_nodes }
     {
-        if self.rules.len() > 0 {
+        if !self.rules.is_empty() {
             return Err(Flaw::OutOfOrder);
         }
         if self.nodes.len() >= MOST_NODES {
             return Err(Flaw::TooMany);
         }
-        node(self.stations.len(), self.nodes.as_slice(), part)
+        self.earlier().node(part)
     }
 
     // The rule of a rule's record.
-    fn rule(&self, part: &[u8]) -> Result<Rule, Flaw>
-        requires { length part.now ≡ 7 }
+    fn rule(&self, part: &[u8; 7]) -> Result<Rule, Flaw>
         ensures value { result ≡ rule_of (drafted self.now) part.now }
         ensures room { is_ok result ≡ true → vec_len self.now.rules < most_rules }
     {
         if self.rules.len() >= MOST_RULES {
             return Err(Flaw::TooMany);
         }
-        rule(self.stations.len(), self.nodes.as_slice(), part)
+        self.earlier().rule(part)
     }
 
-    // One record more, or what is wrong with it.
+    // One record more, or what is wrong with it, told at its place.
     pub(crate) fn add(&mut self, placed: Placed<'_>) -> Result<(), SheetFault>
-        requires { length (part_of placed.«record»).bytes ≡ size (part_of placed.«record»).sort }
         ensures { Adds (added (drafted self.old) (part_of placed.entry.«record»).sort (part_of placed.entry.«record»).bytes placed.entry.place) result self.new }
     {
-        let place = placed.place;
+        let told = |flaw| SheetFault::Record(flaw, placed.place);
         match placed.record {
             Record::Station(part) => {
-                let found = self.station(part);
-                put(&mut self.stations, found, place)
+                let channels = self.station(part).map_err(told)?;
+                self.stations.push_reserved(channels);
             }
             Record::Node(part) => {
-                let found = self.node(part);
-                put(&mut self.nodes, found, place)
+                let node = self.node(part).map_err(told)?;
+                self.nodes.push_reserved(node);
             }
             Record::Rule(part) => {
-                let found = self.rule(part);
-                put(&mut self.rules, found, place)
+                let rule = self.rule(part).map_err(told)?;
+                self.rules.push_reserved(rule);
             }
         }
+        Ok(())
+    }
+
+    // What was read is a sheet if it has a station.
+    pub(crate) fn finish(self, place: Place) -> Result<Sheet, SheetFault>
+        ensures { Reads (finished (drafted self) place) result }
+    {
+        let Draft {
+            stations,
+            nodes,
+            rules,
+        } = self;
+        if stations.is_empty() {
+            return Err(SheetFault::NoStation(place));
+        }
+        Ok(Sheet {
+            stations,
+            nodes,
+            rules,
+        })
     }
 }
