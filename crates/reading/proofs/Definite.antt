@@ -2,12 +2,14 @@
 use Rattle.std.proofs.Common.{◌≡◌, ℕ, zero, suc, Bool, true, false, cond, eqb, List, length, Ok, Err, Result, arith}
 use Rattle.faults.specs.declared.Place.{Place}
 use Rattle.faults.specs.declared.Flaw.{Flaw}
-use Rattle.faults.specs.declared.SheetFault.TheVariants.{NoStation, Memory}
+use Rattle.faults.specs.declared.SheetFault.TheVariants.{Bytes, Record, NoStation, Memory}
+use Rattle.faults.specs.declared.SheetFault.{SheetFault}
+use Rattle.sheet.specs.declared.valid.Sheet.{Sheet}
 use Rattle.records.specs.Records.{Sort, station, node, rule, whole}
 use Rattle.records.specs.Handed.{start, next_place}
 use Rattle.sheet.specs.Content.{Content}
 use Rattle.reading.specs.Decoding.{station_of, node_of, rule_of}
-use Rattle.reading.specs.Reading.{nothing, with_station, with_node, with_rule, put, added, finished, onto, reading}
+use Rattle.reading.specs.Reading.{nothing, with_station, with_node, with_rule, put, added, finished, onto, reading, Reads, ReadsOrWants}
 use Rattle.reading.proofs.Onto.{ended, broken, flawed, further, step}
 
 put_definite : {X : Type 0} (more : X → Content) (at : Place) (r : Result X Flaw) → put more at r ≡ Err Memory → ⊥
@@ -40,3 +42,11 @@ onto_definite (suc n) c at bytes e =
 pub reading_definite : (bytes : List ℕ) → reading bytes ≡ Err Memory → ⊥
 unfolding reading
 reading_definite bytes e = onto_definite (length bytes) nothing start bytes e
+
+-- the definition's answer is one of the two
+pub reads_too : (x : Result Content SheetFault) (r : Result Sheet SheetFault) → Reads x r → ReadsOrWants x r
+reads_too x (Ok s) h = h
+reads_too x (Err Memory) h = tt
+reads_too x (Err (Bytes f)) h = h
+reads_too x (Err (Record f at)) h = h
+reads_too x (Err (NoStation at)) h = h

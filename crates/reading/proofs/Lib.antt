@@ -1,5 +1,4 @@
 pub mod Fields
 pub mod Validity
 pub mod Onto
-pub mod Turn
 pub mod Definite

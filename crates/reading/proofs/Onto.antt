@@ -80,35 +80,43 @@ still_starts bytes = record { bound = length bytes; enough = omega arith; same =
 pub still_ends : (c : Content) (at : Place) (bytes : List ℕ) (x : Result Content SheetFault) → Still c at bytes x → length bytes ≡ 0 → x ≡ finished c at
 still_ends c at bytes x s e = sym s.same ∙ onto_end s.bound c at bytes e
 
-module _ (c : Content) (at : Place) (bytes : List ℕ) (x : Result Content SheetFault) (more : 0 < length bytes) where
-  one_more : (s : Still c at bytes x) → onto (suc (s.bound - 1)) c at bytes ≡ x
-  one_more s = let n : suc (s.bound - 1) ≡ s.bound = omega (arith, s.enough) in rw n s.same
+-- where bytes are left, one turn comes to the same
+one_more : (c : Content) (at : Place) (bytes : List ℕ) (x : Result Content SheetFault) → 0 < length bytes → (s : Still c at bytes x) → onto (suc (s.bound - 1)) c at bytes ≡ x
+one_more c at bytes x more s = let n : suc (s.bound - 1) ≡ s.bound = omega (arith, s.enough) in rw n s.same
 
-  pub still_refused : (e : BytesFault) → Still c at bytes x → Err e ≡ offered at (front bytes) → x ≡ Err (Bytes e)
-  still_refused e s h = sym (one_more s) ∙ refused_at c at bytes more (s.bound - 1) (front bytes) e refl (sym h)
+pub still_refused :
+    (c : Content) (at : Place) (bytes : List ℕ) (x : Result Content SheetFault) (e : BytesFault)
+    → 0 < length bytes → Still c at bytes x → Err e ≡ offered at (front bytes) → x ≡ Err (Bytes e)
+still_refused c at bytes x e more s h =
+    sym (one_more c at bytes x more s) ∙ refused_at c at bytes more (s.bound - 1) (front bytes) e refl (sym h)
 
-  still_flawed_at : (v : Sight) (q : Piece) (e : SheetFault) → front bytes ≡ v → Still c at bytes x → offered at v ≡ Ok q → added c q.part.sort q.part.bytes at ≡ Err e → x ≡ Err e
-  still_flawed_at end q e f s h a = grind arith
-  still_flawed_at cut q e f s h a = grind arith
-  still_flawed_at unknown q e f s h a = grind arith
-  still_flawed_at (whole p rest) q e f s h a =
-      let same : p ≡ q.part = cc in
-      sym (one_more s) ∙ flawed_at c at bytes (s.bound - 1) p rest f e (rw same a)
+-- a record that is handed out is put in, or is refused
+module _ (c : Content) (at : Place) (bytes : List ℕ) (x : Result Content SheetFault) (q : Piece) (s : Still c at bytes x) where
+  more_left : (p : Part) (rest : List ℕ) → front bytes ≡ whole p rest → 0 < length bytes
+  more_left p rest f = omega (arith, length_front bytes p rest f, size_least p.sort)
 
-  pub still_flawed : (q : Piece) (e : SheetFault) → Still c at bytes x → offered at (front bytes) ≡ Ok q → added c q.part.sort q.part.bytes at ≡ Err e → x ≡ Err e
-  still_flawed q e s h a = still_flawed_at (front bytes) q e refl s h a
+  refused_by : (v : Sight) (e : SheetFault) → front bytes ≡ v → Ok q ≡ offered at v → added c q.part.sort q.part.bytes q.place ≡ Err e → x ≡ Err e
+  refused_by end e f h a = cc
+  refused_by cut e f h a = cc
+  refused_by unknown e f h a = cc
+  refused_by (whole p rest) e f h a =
+      let same : q ≡ record { part = p; place = at } = cc in
+      sym (one_more c at bytes x (more_left p rest f) s) ∙ flawed_at c at bytes (s.bound - 1) p rest f e (rw same at a)
 
-  still_added_at : (v : Sight) (q : Piece) (d : Content) → front bytes ≡ v → Still c at bytes x → offered at v ≡ Ok q → added c q.part.sort q.part.bytes at ≡ Ok d → Still d (next_place at v) (rest_of bytes v) x
-  still_added_at end q d f s h a = grind arith
-  still_added_at cut q d f s h a = grind arith
-  still_added_at unknown q d f s h a = grind arith
-  still_added_at (whole p rest) q d f s h a =
-      let same : p ≡ q.part = cc in
+  added_by : (v : Sight) (d : Content) → front bytes ≡ v → Ok q ≡ offered at v → added c q.part.sort q.part.bytes q.place ≡ Ok d → Still d (next_place at v) (rest_of bytes v) x
+  added_by end d f h a = cc
+  added_by cut d f h a = cc
+  added_by unknown d f h a = cc
+  added_by (whole p rest) d f h a =
+      let same : q ≡ record { part = p; place = at } = cc in
       record {
         bound = s.bound - 1;
         enough = omega (arith, s.enough, length_front bytes p rest f, size_least p.sort);
-        same = sym (granted_at c at bytes (s.bound - 1) p rest f d (rw same a)) ∙ one_more s;
+        same = sym (granted_at c at bytes (s.bound - 1) p rest f d (rw same at a)) ∙ one_more c at bytes x (more_left p rest f) s;
       }
 
-  pub still_added : (q : Piece) (d : Content) → Still c at bytes x → offered at (front bytes) ≡ Ok q → added c q.part.sort q.part.bytes at ≡ Ok d → Still d (next_place at (front bytes)) (rest_of bytes (front bytes)) x
-  still_added q d s h a = still_added_at (front bytes) q d refl s h a
+  pub still_flawed : (e : SheetFault) → Ok q ≡ offered at (front bytes) → added c q.part.sort q.part.bytes q.place ≡ Err e → x ≡ Err e
+  still_flawed e h a = refused_by (front bytes) e refl h a
+
+  pub still_added : (d : Content) → Ok q ≡ offered at (front bytes) → added c q.part.sort q.part.bytes q.place ≡ Ok d → Still d (next_place at (front bytes)) (rest_of bytes (front bytes)) x
+  still_added d h a = added_by (front bytes) d refl h a

@@ -1,12 +1,11 @@
 -- What is read so far stays valid with each record more.
-use Rattle.std.proofs.Common.{◌≡◌, ℕ, ◌<◌, ◌≤◌, Bool, true, false, cond, not, ◌&&◌, ◌||◌, eqb, ltb, leb, List, [], ◌∷◌, ◌++◌, length, get_or, take, pos, negsuc, Some, None, Ok, Err, Option, Result, sym, refl, subst, ⊎_elim, arith}
+use Rattle.std.proofs.Common.{◌≡◌, ℕ, ◌<◌, ◌≤◌, Bool, true, false, cond, not, ◌&&◌, eqb, ltb, leb, List, [], ◌∷◌, ◌++◌, length, get_or, take, pos, negsuc, Some, None, Ok, Err, Option, Result, sym, refl, subst, ⊎_elim, arith}
 use Rattle.std.proofs.lemmas.List.{length_push, take-append-le, take_at, get_or_append_left, get_or_push}
-use Rattle.std.proofs.lemmas.Bool.{cases_lt, and_parts, and_from, or_parts, leb-false, ltb-false, eq-eqb, le-leb}
+use Rattle.std.proofs.lemmas.Bool.{cases_lt, and_parts, and_from, leb-false, ltb-false}
 use Rattle.std.proofs.lemmas.Bool.Decides.{nat_tests}
 use Rattle.faults.specs.declared.Flaw.{Flaw}
-use Rattle.faults.specs.declared.Flaw.TheVariants.{OutOfOrder, TooMany, NoChannel, UnknownKind, NumberOutside, NotThere, WrongSort, TooDeep}
+use Rattle.faults.specs.declared.Flaw.TheVariants.{OutOfOrder, TooMany, UnknownKind, NumberOutside, NotThere, WrongSort, TooDeep}
 use Rattle.faults.specs.declared.Place.{Place}
-use Rattle.records.specs.Records.{Sort, station, node, rule}
 use Rattle.sheet.specs.declared.form.Form.{Form}
 use Rattle.sheet.specs.declared.form.Fields.{Fields}
 use Rattle.sheet.specs.declared.form.Slot.{Slot}
@@ -19,8 +18,8 @@ use Rattle.sheet.specs.declared.form.Rule.TheVariants.{Plain, Conditional}
 use Rattle.sheet.specs.Content.{Content, Valid}
 use Rattle.sheet.specs.Kinds.{form_of, shape_of}
 use Rattle.sheet.specs.Sound.{missing_node, missing_rule, there, of_sort, within, depth_of, sound_row, sound_node, sound_claim, sound_rule}
-use Rattle.reading.specs.Decoding.{word, number_fits, node_fields, station_of, node_of_row, node_of_form, node_of, rule_of_slots, rule_of, first_claim, second_claim}
-use Rattle.reading.specs.Reading.{nothing, with_station, with_node, with_rule, added, put}
+use Rattle.reading.specs.Decoding.{number_fits, node_fields, node_of_row, node_of_form, node_of, rule_of_slots, rule_of, first_claim, second_claim}
+use Rattle.reading.specs.Reading.{with_node, with_rule, put}
 use Rattle.reading.proofs.Fields.{fields_same}
 
 -- what it says that a node passes the checks of its kind
@@ -55,18 +54,8 @@ row_passed n before form row f x e =
       same = c.4;
     }
 
-all_of : (a b c d e : Bool) → a ≡ true → b ≡ true → c ≡ true → d ≡ true → e ≡ true → (a && b && c && (d && e)) ≡ true
-all_of a b c d e p q r s t = rw (p, q, r, s, t)
-
 row_sound : (n : ℕ) (before : List Node) (form : Form) (row : Shape) (f : Fields) (x : Node) → Passed n before form row f x → sound_row n before (depth_of before row f.a f.b) row f ≡ true
-row_sound n before form row f x p =
-    all_of
-    (within row.least row.greatest f.k)
-    (there n before row.a f.a && there n before row.b f.b)
-    (of_sort before row.a f.a && of_sort before row.b f.b)
-    (eqb (depth_of before row f.a f.b) (depth_of before row f.a f.b))
-    (leb (depth_of before row f.a f.b) 8)
-    p.fits p.all_there p.all_sorted (eq-eqb _ _ refl) (le-leb _ 8 p.shallow)
+row_sound n before form row f x p = grind (arith, nat_tests)
 
 -- a node that was read may stand behind the nodes before it
 form_sound : (n : ℕ) (before : List Node) (o : Option Form) (f : Fields) (x : Node) → form_of f ≡ o → node_of_form n before o f ≡ Ok x → sound_node n before x ≡ true
@@ -99,15 +88,7 @@ pub slots_passed :
     × ((there n nodes s second.station && there n nodes r second.range) ≡ true)
     × (of_sort nodes r second.range ≡ true)
     × (y ≡ x)
-slots_passed n nodes first s r second x y e =
-    let here = there n nodes slot.Station first.station && there n nodes slot.Range first.range in
-    let there' = there n nodes s second.station && there n nodes r second.range in
-    let sort = of_sort nodes slot.Range first.range in
-    let sort' = of_sort nodes r second.range in
-    let c = chain (here && there') (sort && sort') true false NotThere WrongSort WrongSort TooDeep x y e in
-    let h = and_parts here there' c.0 in
-    let g = and_parts sort sort' c.1 in
-    (and_from here sort h.0 g.0, h.1, g.1, c.4)
+slots_passed n nodes first s r second x y e = grind (arith, nat_tests)
 
 -- a rule that was read names what is there
 kind_sound : (n : ℕ) (nodes : List Node) (a b : Bool) (part : List ℕ) (y : Rule)
@@ -118,38 +99,15 @@ kind_sound : (n : ℕ) (nodes : List Node) (a b : Bool) (part : List ℕ) (y : R
     (Err UnknownKind)) ≡ Ok y
     → sound_rule n nodes y ≡ true
 kind_sound n nodes true b part y e =
-    let p = slots_passed n nodes (first_claim part) slot.Nothing slot.Nothing (second_claim part) (Plain (first_claim part)) y e in
-    subst (λ (z : Rule). sound_rule n nodes z ≡ true) (sym p.3) p.0
+    let p = slots_passed n nodes (first_claim part) slot.Nothing slot.Nothing (second_claim part) (Plain (first_claim part)) y e in rw p.3 p.0
 kind_sound n nodes false true part y e =
     let p = slots_passed n nodes (first_claim part) slot.Station slot.Range (second_claim part) (Conditional (first_claim part) (second_claim part)) y e in
-    subst (λ (z : Rule). sound_rule n nodes z ≡ true) (sym p.3)
-    (and_from (sound_claim n nodes (first_claim part)) (sound_claim n nodes (second_claim part)) p.0 (and_from _ _ p.1 p.2))
+    rw p.3 (and_from (sound_claim n nodes (first_claim part)) (sound_claim n nodes (second_claim part)) p.0 (and_from _ _ p.1 p.2))
 kind_sound n nodes false false part y e = grind arith
 
 -- two tests before a record's own
 pub guarded : {X : Type 0} (a b : Bool) (e₁ e₂ : Flaw) (r : Result X Flaw) (y : X) → cond a (Err e₁) (cond b (Err e₂) r) ≡ Ok y → (a ≡ false) × (b ≡ false) × (r ≡ Ok y)
 guarded a b e₁ e₂ r y h = grind arith
-
-granted_word : (part : List ℕ) (x : ℕ) → cond (eqb (word part) 0) (Err NoChannel) (Ok (word part)) ≡ Ok x → 0 < x
-granted_word part x e = by_word (word part) e
-  where
-    by_word : (w : ℕ) → cond (eqb w 0) (Err NoChannel) (Ok w) ≡ Ok x → 0 < x
-    by_word w h = grind (arith, nat_tests)
-
-pub station_valid : (c : Content) (part : List ℕ) (x : ℕ) → Valid c → station_of c part ≡ Ok x → Valid (with_station c x)
-station_valid c part x v e =
-    let g = guarded (ltb 0 (length c.nodes) || ltb 0 (length c.rules)) (leb 32 (length c.stations)) OutOfOrder TooMany _ x e in
-    let none = or_parts (ltb 0 (length c.nodes)) (ltb 0 (length c.rules)) g.0 in
-    let no-nodes = ltb-false 0 (length c.nodes) none.0 in
-    let no-rules = ltb-false 0 (length c.rules) none.1 in
-    record {
-      few_stations = omega (arith, length_push c.stations x, leb-false 32 (length c.stations) g.1);
-      channels = each_more 0 (λ _ w. 0 < w) c.stations x v.channels (granted_word part x g.2);
-      few_nodes = v.few_nodes;
-      few_rules = v.few_rules;
-      nodes_sound = λ i lt. absurd (omega arith);
-      rules_sound = λ i lt. absurd (omega arith);
-    }
 
 pub node_valid : (c : Content) (part : List ℕ) (x : Node) → Valid c → node_of c part ≡ Ok x → Valid (with_node c x)
 node_valid c part x v e =
@@ -183,26 +141,3 @@ rule_valid c part x v e =
 pub put_granted : {X : Type 0} (more : X → Content) (at : Place) (r : Result X Flaw) (d : Content) → put more at r ≡ Ok d → (x : X) × (r ≡ Ok x) × (d ≡ more x)
 put_granted more at (Ok x) d e = (x, refl, cc)
 put_granted more at (Err f) d e = grind arith
-
--- what was read stays valid with one record more
-pub added_valid : (c : Content) (s : Sort) (part : List ℕ) (at : Place) (d : Content) → Valid c → added c s part at ≡ Ok d → Valid d
-added_valid c station part at d v e =
-    let g = put_granted (with_station c) at (station_of c part) d e in
-    subst Valid (sym g.2) (station_valid c part g.0 v g.1)
-added_valid c node part at d v e =
-    let g = put_granted (with_node c) at (node_of c part) d e in
-    subst Valid (sym g.2) (node_valid c part g.0 v g.1)
-added_valid c rule part at d v e =
-    let g = put_granted (with_rule c) at (rule_of c part) d e in
-    subst Valid (sym g.2) (rule_valid c part g.0 v g.1)
-
-pub nothing_valid : Valid nothing
-nothing_valid =
-    record {
-      few_stations = omega arith;
-      channels = λ i lt. absurd (omega arith);
-      few_nodes = omega arith;
-      few_rules = omega arith;
-      nodes_sound = λ i lt. absurd (omega arith);
-      rules_sound = λ i lt. absurd (omega arith);
-    }

@@ -41,6 +41,12 @@ fn number_fits(row: Shape, k: i16) -> bool
     is_within(-1000, 1000, k) && is_within(row.least, row.greatest, k)
 }
 
+// What the two bytes of a claim stand for.
+const CLAIM: (Slot, Slot) = (Slot::Station, Slot::Range);
+
+// What they stand for where there is no claim.
+const NO_CLAIM: (Slot, Slot) = (Slot::Nothing, Slot::Nothing);
+
 // What stands on a sheet before a record: so many stations, and the nodes.
 #[derive(Clone, Copy)]
 pub(crate) struct Earlier<'a> {
@@ -136,7 +142,7 @@ impl Earlier<'_> {
     ) -> Result<Rule, Flaw>
         ensures { result ≡ rule_of_slots self.now.stations self.now.nodes.now first slots.0 slots.1 second rule }
     {
-        if !(self.has_claim((Slot::Station, Slot::Range), first) && self.has_claim(slots, second)) {
+        if !(self.has_claim(CLAIM, first) && self.has_claim(slots, second)) {
             return Err(Flaw::NotThere);
         }
         if !(self.is_of_sort(Slot::Range, first.range) && self.is_of_sort(slots.1, second.range)) {
@@ -163,18 +169,8 @@ impl Earlier<'_> {
             range: second_range,
         };
         match kind {
-            0 => self.rule_of_slots(
-                first,
-                (Slot::Nothing, Slot::Nothing),
-                second,
-                Rule::Plain(first),
-            ),
-            1 => self.rule_of_slots(
-                first,
-                (Slot::Station, Slot::Range),
-                second,
-                Rule::Conditional(first, second),
-            ),
+            0 => self.rule_of_slots(first, NO_CLAIM, second, Rule::Plain(first)),
+            1 => self.rule_of_slots(first, CLAIM, second, Rule::Conditional(first, second)),
             _ => Err(Flaw::UnknownKind),
         }
     }

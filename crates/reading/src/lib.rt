@@ -29,6 +29,7 @@ pub fn read_in(room: Room, bytes: &[u8]) -> Result<Sheet, SheetFault>
 }
 
 // The same, with memory of its own: want of memory is one more answer, and none of the definition's.
+#[tactic(auto, using(crate::proofs::Definite::reading_definite, crate::proofs::Definite::reads_too))]
 pub fn read(heap: Global, bytes: &[u8]) -> Result<Sheet, SheetFault>
     ensures reads { ReadsOrWants (reading_of bytes.now) result }
     ensures definite { reading_of bytes.now ≢ Err Memory }

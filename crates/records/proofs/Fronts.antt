@@ -1,7 +1,7 @@
 -- What it says that a whole record stands at the front.
-use Rattle.std.proofs.Common.{◌≡◌, ℕ, ◌+◌, ◌<◌, ◌≤◌, Bool, true, false, cond, eqb, ltb, List, length, get_or, take, drop, Some, None, Ok, Err, Option, Result, sym, refl, ap, ◌∙◌, arith}
+use Rattle.std.proofs.Common.{◌≡◌, ℕ, ◌+◌, ◌<◌, ◌≤◌, Bool, true, false, cond, eqb, ltb, List, length, get_or, take, drop, Some, None, Ok, Err, Option, Result, sym, refl, ap, arith}
 use Rattle.std.proofs.lemmas.Bool.Decides.{nat_tests}
-use Rattle.std.proofs.lemmas.List.{length-drop, length-take-le}
+use Rattle.std.proofs.lemmas.List.{length-drop}
 use Rattle.faults.specs.declared.Place.{Place}
 use Rattle.std.specs.Bool.{⊤}
 use Rattle.std.specs.Iterator.{MakesProgress, at_most}
@@ -26,28 +26,26 @@ of_mark_taken : (s : Option Sort) (bytes : List ℕ) (p : Part) (rest : List ℕ
 of_mark_taken None bytes p rest e = grind arith
 of_mark_taken (Some s) bytes p rest e = of_size_taken s bytes p rest e
 
-pub front_taken : (bytes : List ℕ) (p : Part) (rest : List ℕ) → front bytes ≡ whole p rest → Taken bytes p rest
-unfolding front
-front_taken bytes p rest e = by_tests (eqb (length bytes) 0) (ltb (length bytes) 2) e
-  where
-    by_tests : (a b : Bool) → cond a end (cond b cut (of_mark (marked (get_or bytes 0 0) (get_or bytes 1 0)) bytes)) ≡ whole p rest → Taken bytes p rest
-    by_tests true b h = grind arith
-    by_tests false true h = grind arith
-    by_tests false false h = of_mark_taken (marked (get_or bytes 0 0) (get_or bytes 1 0)) bytes p rest h
-
--- the mark says the sort
 of_mark_sort : (o : Option Sort) (bytes : List ℕ) (p : Part) (rest : List ℕ) → of_mark o bytes ≡ whole p rest → o ≡ Some p.sort
 of_mark_sort None bytes p rest e = grind arith
 of_mark_sort (Some s) bytes p rest e = grind (arith, nat_tests)
 
-pub front-marked : (bytes : List ℕ) (p : Part) (rest : List ℕ) → front bytes ≡ whole p rest → marked (get_or bytes 0 0) (get_or bytes 1 0) ≡ Some p.sort
+-- it has a mark
+at_mark : (bytes : List ℕ) (p : Part) (rest : List ℕ) → front bytes ≡ whole p rest → of_mark (marked (get_or bytes 0 0) (get_or bytes 1 0)) bytes ≡ whole p rest
 unfolding front
-front-marked bytes p rest e = by_tests (eqb (length bytes) 0) (ltb (length bytes) 2) e
+at_mark bytes p rest e = by_tests (eqb (length bytes) 0) (ltb (length bytes) 2) e
   where
-    by_tests : (a b : Bool) → cond a end (cond b cut (of_mark (marked (get_or bytes 0 0) (get_or bytes 1 0)) bytes)) ≡ whole p rest → marked (get_or bytes 0 0) (get_or bytes 1 0) ≡ Some p.sort
-    by_tests true b h = grind arith
-    by_tests false true h = grind arith
-    by_tests false false h = of_mark_sort (marked (get_or bytes 0 0) (get_or bytes 1 0)) bytes p rest h
+    by_tests : {S : Sight} (a b : Bool) → cond a end (cond b cut S) ≡ whole p rest → S ≡ whole p rest
+    by_tests true b h = cc
+    by_tests false true h = cc
+    by_tests false false h = h
+
+pub front_taken : (bytes : List ℕ) (p : Part) (rest : List ℕ) → front bytes ≡ whole p rest → Taken bytes p rest
+front_taken bytes p rest e = of_mark_taken _ bytes p rest (at_mark bytes p rest e)
+
+-- the mark says the sort
+pub front-marked : (bytes : List ℕ) (p : Part) (rest : List ℕ) → front bytes ≡ whole p rest → marked (get_or bytes 0 0) (get_or bytes 1 0) ≡ Some p.sort
+front-marked bytes p rest e = of_mark_sort _ bytes p rest (at_mark bytes p rest e)
 
 -- a record has seven bytes or more
 pub size_least : (s : Sort) → 7 ≤ size s
@@ -60,29 +58,15 @@ pub length_front : (bytes : List ℕ) (p : Part) (rest : List ℕ) → front byt
 length_front bytes p rest e =
     let t = front_taken bytes p rest e in omega (arith, length-drop (size p.sort) bytes, ap length t.behind)
 
--- what is handed out has its sort's size, stands where it was asked for, and leaves less
-pub record Whole (at : Place) (bytes : List ℕ) (s : Sight) (q : Piece) : Type 0 where
-  pub sized : length q.part.bytes ≡ size q.part.sort
-  pub here : q.place ≡ at
-  pub less : length (rest_of bytes s) < length bytes
+-- what is handed out leaves less
+less_left : (at : Place) (bytes : List ℕ) (s : Sight) (q : Piece) → front bytes ≡ s → Ok q ≡ offered at s → length (rest_of bytes s) < length bytes
+less_left at bytes end q f e = cc
+less_left at bytes cut q f e = cc
+less_left at bytes unknown q f e = cc
+less_left at bytes (whole p rest) q f e = omega (arith, length_front bytes p rest f, size_least p.sort)
 
-offered-at : (at : Place) (bytes : List ℕ) (s : Sight) (q : Piece) → front bytes ≡ s → offered at s ≡ Ok q → Whole at bytes s q
-offered-at at bytes end q f e = grind arith
-offered-at at bytes cut q f e = grind arith
-offered-at at bytes unknown q f e = grind arith
-offered-at at bytes (whole p rest) q f e =
-    let t = front_taken bytes p rest f in
-    let same : p ≡ q.part = cc in
-    let here : at ≡ q.place = cc in
-    let long : length p.bytes ≡ size p.sort = ap length t.first ∙ length-take-le (size p.sort) bytes t.fits in
-    record {
-      sized = rw same at long;
-      here = sym here;
-      less = omega (arith, length_front bytes p rest f, size_least p.sort);
-    }
-
-pub offered_whole : (at : Place) (bytes : List ℕ) (q : Piece) → Ok q ≡ offered at (front bytes) → Whole at bytes (front bytes) q
-offered_whole at bytes q e = offered-at at bytes (front bytes) q refl (sym e)
+pub rest_less : (at : Place) (bytes : List ℕ) (q : Piece) → Ok q ≡ offered at (front bytes) → length (rest_of bytes (front bytes)) < length bytes
+rest_less at bytes q e = less_left at bytes (front bytes) q refl e
 
 pub length_next : (bytes : List ℕ) (p : Part) (rest : List ℕ) → whole p rest ≡ front bytes → (size p.sort + length rest ≡ length bytes) × (7 ≤ size p.sort)
 length_next bytes p rest e = (length_front bytes p rest (sym e), size_least p.sort)
@@ -91,7 +75,7 @@ length_next bytes p rest e = (length_front bytes p rest (sym e), size_least p.so
 pub nearer : (s t : Reader) (r : Option Placed) → Hands s r t → MakesProgress (λ _. ⊤) (λ (s : Reader). at_most (length s.rest.now)) s r t
 nearer s t None h = record { on = λ _. tt; keeps = tt; rests = λ _. tt }
 nearer s t (Some x) h =
-    record { on = λ _. (tt, tt, rw h.rest (offered_whole s.place s.rest.now (piece x) (ok_same (offered s.place (front s.rest.now)) h.value)).less); keeps = tt; rests = λ _. tt }
+    record { on = λ _. (tt, tt, rw h.rest (rest_less s.place s.rest.now (piece x) (ok_same (offered s.place (front s.rest.now)) h.value))); keeps = tt; rests = λ _. tt }
   where
     ok_same : (o : Result Piece BytesFault) → Some (piece x) ≡ result_ok o → Ok (piece x) ≡ o
     ok_same (Ok q) e = cc
