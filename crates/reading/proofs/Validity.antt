@@ -1,10 +1,10 @@
 -- What is read so far stays valid with each record more.
-use Rattle.std.proofs.Common.{◌≡◌, ℕ, ◌<◌, ◌≤◌, Bool, true, false, cond, not, ◌&&◌, eqb, ltb, leb, List, [], ◌∷◌, ◌++◌, length, get_or, take, pos, negsuc, Some, None, Ok, Err, Option, Result, sym, refl, subst, ⊎_elim, arith}
+use Rattle.std.proofs.Common.{◌≡◌, ℕ, ◌<◌, ◌≤◌, Bool, true, false, cond, not, ◌&&◌, ◌||◌, eqb, ltb, leb, List, [], ◌∷◌, ◌++◌, length, get_or, take, pos, negsuc, Some, None, Ok, Err, Option, Result, sym, refl, subst, ⊎_elim, arith}
 use Rattle.std.proofs.lemmas.List.{length_push, take-append-le, take_at, get_or_append_left, get_or_push}
-use Rattle.std.proofs.lemmas.Bool.{cases_lt, and_parts, and_from, leb-false, ltb-false}
+use Rattle.std.proofs.lemmas.Bool.{cases_lt, and_parts, and_from, or_parts, leb-false, ltb-false}
 use Rattle.std.proofs.lemmas.Bool.Decides.{nat_tests}
 use Rattle.faults.specs.declared.Flaw.{Flaw}
-use Rattle.faults.specs.declared.Flaw.TheVariants.{OutOfOrder, TooMany, UnknownKind, NumberOutside, NotThere, WrongSort, TooDeep}
+use Rattle.faults.specs.declared.Flaw.TheVariants.{OutOfOrder, TooMany, NoChannel, UnknownKind, NumberOutside, NotThere, WrongSort, TooDeep}
 use Rattle.faults.specs.declared.Place.{Place}
 use Rattle.sheet.specs.declared.form.Form.{Form}
 use Rattle.sheet.specs.declared.form.Fields.{Fields}
@@ -18,8 +18,8 @@ use Rattle.sheet.specs.declared.form.Rule.TheVariants.{Plain, Conditional}
 use Rattle.sheet.specs.Content.{Content, Valid}
 use Rattle.sheet.specs.Kinds.{form_of, shape_of}
 use Rattle.sheet.specs.Sound.{missing_node, missing_rule, there, of_sort, within, depth_of, sound_row, sound_node, sound_claim, sound_rule}
-use Rattle.reading.specs.Decoding.{number_fits, node_fields, node_of_row, node_of_form, node_of, rule_of_slots, rule_of, first_claim, second_claim}
-use Rattle.reading.specs.Reading.{with_node, with_rule, put}
+use Rattle.reading.specs.Decoding.{word, number_fits, node_fields, station_of, node_of_row, node_of_form, node_of, rule_of_slots, rule_of, first_claim, second_claim}
+use Rattle.reading.specs.Reading.{with_station, with_node, with_rule, put}
 use Rattle.reading.proofs.Fields.{fields_same}
 
 -- what it says that a node passes the checks of its kind
@@ -108,6 +108,27 @@ kind_sound n nodes false false part y e = grind arith
 -- two tests before a record's own
 pub guarded : {X : Type 0} (a b : Bool) (e₁ e₂ : Flaw) (r : Result X Flaw) (y : X) → cond a (Err e₁) (cond b (Err e₂) r) ≡ Ok y → (a ≡ false) × (b ≡ false) × (r ≡ Ok y)
 guarded a b e₁ e₂ r y h = grind arith
+
+granted_word : (part : List ℕ) (x : ℕ) → cond (eqb (word part) 0) (Err NoChannel) (Ok (word part)) ≡ Ok x → 0 < x
+granted_word part x e = by_word (word part) e
+  where
+    by_word : (w : ℕ) → cond (eqb w 0) (Err NoChannel) (Ok w) ≡ Ok x → 0 < x
+    by_word w h = grind (arith, nat_tests)
+
+pub station_valid : (c : Content) (part : List ℕ) (x : ℕ) → Valid c → station_of c part ≡ Ok x → Valid (with_station c x)
+station_valid c part x v e =
+    let g = guarded (ltb 0 (length c.nodes) || ltb 0 (length c.rules)) (leb 32 (length c.stations)) OutOfOrder TooMany _ x e in
+    let none = or_parts (ltb 0 (length c.nodes)) (ltb 0 (length c.rules)) g.0 in
+    let no-nodes = ltb-false 0 (length c.nodes) none.0 in
+    let no-rules = ltb-false 0 (length c.rules) none.1 in
+    record {
+      few_stations = omega (arith, length_push c.stations x, leb-false 32 (length c.stations) g.1);
+      channels = each_more 0 (λ _ w. 0 < w) c.stations x v.channels (granted_word part x g.2);
+      few_nodes = v.few_nodes;
+      few_rules = v.few_rules;
+      nodes_sound = λ i lt. absurd (omega arith);
+      rules_sound = λ i lt. absurd (omega arith);
+    }
 
 pub node_valid : (c : Content) (part : List ℕ) (x : Node) → Valid c → node_of c part ≡ Ok x → Valid (with_node c x)
 node_valid c part x v e =

@@ -2,7 +2,7 @@
 use Rattle.std.proofs.Common.{◌≡◌, ℕ, zero, suc, ◌+◌, ◌*◌, ◌/◌, ◌%◌, ◌<◌, ◌≤◌, Bool, true, false, cond, ◌||◌, eqb, ltb, leb, List, [], ◌∷◌, ◌++◌, length, get_or, take, Some, None, Ok, Err, Option, sym, refl, ap, ◌∙◌, subst, arith, w16, to_z, of_z}
 use Rattle.std.proofs.lemmas.List.{append_assoc, append-nil, nil_from_length, get_or-take, length-take-le, take-append-drop}
 use Rattle.std.proofs.ByRecursion.{All-take, All-drop}
-use Rattle.std.proofs.lemmas.Bool.{and_parts, or_parts, eqb-true, ltb-false}
+use Rattle.std.proofs.lemmas.Bool.{or_parts, ltb-false}
 use Rattle.std.proofs.lemmas.Bool.Decides.{nat_tests}
 use Rattle.std.specs.List.{flat_map}
 use Rattle.faults.specs.declared.Place.{Place}
@@ -104,18 +104,9 @@ kind_back :
     (Err UnknownKind)) ≡ Ok y
     → rule_bytes y ≡ x
 kind_back n nodes x y true b p q all s t e =
-    let h = slots_passed n nodes (first_claim x) slot.Nothing slot.Nothing (second_claim x) (Plain (first_claim x)) y e in
-    let zeros = and_parts (eqb (byte x 5) 0) (eqb (byte x 6) 0) h.1 in
-    let k : byte x 2 ≡ 0 = eqb-true (byte x 2) 0 p in
-    let u : byte x 5 ≡ 0 = eqb-true (byte x 5) 0 zeros.0 in
-    let v : byte x 6 ≡ 0 = eqb-true (byte x 6) 0 zeros.1 in
-    let plain : rule_bytes (Plain (first_claim x)) ≡ x = cc in
-    subst (λ (z : Rule). rule_bytes z ≡ x) (sym h.3) plain
+    let h = slots_passed n nodes (first_claim x) slot.Nothing slot.Nothing (second_claim x) (Plain (first_claim x)) y e in grind (arith, nat_tests)
 kind_back n nodes x y false true p q all s t e =
-    let h = slots_passed n nodes (first_claim x) slot.Station slot.Range (second_claim x) (Conditional (first_claim x) (second_claim x)) y e in
-    let k : byte x 2 ≡ 1 = eqb-true (byte x 2) 1 q in
-    let conditional : rule_bytes (Conditional (first_claim x) (second_claim x)) ≡ x = cc in
-    subst (λ (z : Rule). rule_bytes z ≡ x) (sym h.3) conditional
+    let h = slots_passed n nodes (first_claim x) slot.Station slot.Range (second_claim x) (Conditional (first_claim x) (second_claim x)) y e in grind (arith, nat_tests)
 kind_back n nodes x y false false p q all s t e = grind arith
 
 rule_back : (n : ℕ) (nodes : List Node) (x : List ℕ) (y : Rule) → length x ≡ 7 → byte x 0 ≡ 82 → byte x 1 ≡ 85 → rule_of_kind n nodes x ≡ Ok y → rule_bytes y ≡ x

@@ -1,36 +1,33 @@
 -- Every valid sheet is read back from the bytes by which it is written.
-use Rattle.std.proofs.Common.{◌≡◌, ℕ, suc, ◌+◌, ◌-◌, ◌*◌, ◌/◌, ◌%◌, ◌^◌, ◌<◌, ◌≤◌, Bool, true, false, cond, not, ◌&&◌, eqb, ltb, leb, List, [], ◌∷◌, ◌++◌, length, get_or, take, drop, ℤ, pos, negsuc, Some, Ok, Err, Option, Result, sym, refl, ap, ◌∙◌, arith, w16, to_z, of_z}
+use Rattle.std.proofs.Common.{◌≡◌, ℕ, suc, ◌+◌, ◌-◌, ◌*◌, ◌/◌, ◌%◌, ◌^◌, ◌<◌, ◌≤◌, true, false, eqb, ltb, leb, List, [], ◌∷◌, ◌++◌, length, get_or, take, drop, ℤ, pos, negsuc, Some, Ok, Option, Result, refl, ap, ◌∙◌, arith, w16, to_z, of_z}
 use lib.Signed.{le_z}
 use Rattle.std.proofs.lemmas.List.{append_assoc, append-nil, length-append, get_or_append_left, take_at, drop_at, get_or_at}
-use Rattle.std.proofs.lemmas.Bool.{and_parts, and_from, leb-true, le-ltb}
+use Rattle.std.proofs.lemmas.Bool.{and_parts, leb-true}
 use Rattle.std.proofs.lemmas.Bool.Decides.{nat_tests}
 use Rattle.std.proofs.lemmas.Int.{ints, to_z-of_z}
 use Rattle.std.specs.List.{flat_map}
 use Rattle.faults.specs.declared.Place.{Place}
-use Rattle.faults.specs.declared.Flaw.{Flaw}
-use Rattle.faults.specs.declared.Flaw.TheVariants.{NumberOutside, NotThere, WrongSort, TooDeep}
 use Rattle.faults.specs.declared.SheetFault.{SheetFault}
 use Rattle.records.specs.Records.{Sort, station, node, rule, Part, whole, size, front}
 use Rattle.records.specs.Handed.{start, next_place, offered}
 use Rattle.records.proofs.Fronts.{size_least}
 use Rattle.sheet.specs.declared.form.Form.{Form}
-use Rattle.sheet.specs.declared.form.Form.TheVariants.{Number, Station, Sum, Difference, Multiple, Quotient, Remainder, Between, AtLeast, AtMost, Channels, Union, Intersection, Complement, Shift}
-use Rattle.sheet.specs.declared.form.Slot.TheVariants as slot
 use Rattle.sheet.specs.declared.form.Shape.{Shape}
 use Rattle.sheet.specs.declared.form.Fields.{Fields}
 use Rattle.sheet.specs.declared.form.Node.{Node}
-use Rattle.sheet.specs.declared.form.Claim.{Claim}
 use Rattle.sheet.specs.declared.form.Rule.{Rule}
 use Rattle.sheet.specs.declared.form.Rule.TheVariants.{Plain, Conditional}
-use Rattle.sheet.specs.Content.{Content, Valid}
+use Rattle.sheet.specs.Content.{Content, Valid, content}
+use Rattle.sheet.specs.declared.valid.Sheet.{Sheet}
+use Rattle.sheet.proofs.Types.{valid, some_station}
 use Rattle.sheet.proofs.Rows.{Row, row_of}
 use Rattle.sheet.specs.Kinds.{form_of, shape_of, fields_of}
-use Rattle.sheet.specs.Sound.{within, there, of_sort, depth_of, sound_node, sound_claim, sound_rule, missing_node, missing_rule}
-use Rattle.reading.specs.Decoding.{byte, word, node_fields, number_fits, node_of_row, node_of_form, node_of_kind, node_of, rule_of_kind, rule_of}
+use Rattle.sheet.specs.Sound.{within, sound_node, sound_rule, missing_node, missing_rule}
+use Rattle.reading.specs.Decoding.{byte, word, node_fields, node_of_row, node_of_form, node_of_kind, node_of, rule_of_kind, rule_of}
 use Rattle.reading.specs.Reading.{with_station, with_node, with_rule, put, added, reading}
 use Rattle.reading.proofs.Onto.{Still, still_starts, still_ends, still_added}
 use Rattle.writing.proofs.Marks.{Marked}
-use Rattle.writing.specs.Written.{station_bytes, fields_bytes, node_bytes, rule_bytes, written, Words}
+use Rattle.writing.specs.Written.{station_bytes, fields_bytes, node_bytes, rule_bytes, written, Words, ReadBack}
 
 -- such a record stands at the front of bytes that begin with it
 front_whole : (s : Sort) (x tail : List ℕ) → Marked s x → front (x ++ tail) ≡ whole (record { sort = s; bytes = x }) tail
@@ -51,10 +48,9 @@ front_whole s x tail m =
 still_record : (c : Content) (at : Place) (s : Sort) (x tail : List ℕ) (r : Result Content SheetFault) (d : Content) → Marked s x → added c s x at ≡ Ok d → Still c at (x ++ tail) r → (next : Place) × Still d next tail r
 still_record c at s x tail r d m e h =
     let f = front_whole s x tail m in
-    let more : 0 < length (x ++ tail) = omega (arith, length-append x tail, m.sized, size_least s) in
     let p : Part = record { sort = s; bytes = x } in
-    let given : offered at (front (x ++ tail)) ≡ Ok (record { part = p; place = at }) = rw f in
-    let next = still_added c at (x ++ tail) r more (record { part = p; place = at }) d h given e in
+    let given : Ok (record { part = p; place = at }) ≡ offered at (front (x ++ tail)) = rw f in
+    let next = still_added c at (x ++ tail) r (record { part = p; place = at }) h d given e in
     (next_place at (whole p tail), rw f at next)
 
 -- a station's record
@@ -72,21 +68,7 @@ station_forth c at y no-nodes no-rules few some small =
 -- a node's record
 -- a node is the one with its own fields, and the limits of its kind lie within those of all
 form_forth : (x : Form) → (form_of (fields_of x) ≡ Some x) × (le_z (negsuc 999) (shape_of x).least ≡ true) × (le_z (shape_of x).greatest (pos 1000) ≡ true)
-form_forth (Number k) = (refl, refl, refl)
-form_forth (Station s) = (refl, refl, refl)
-form_forth (Sum a b) = (refl, refl, refl)
-form_forth (Difference a b) = (refl, refl, refl)
-form_forth (Multiple k a) = (refl, refl, refl)
-form_forth (Quotient a k) = (refl, refl, refl)
-form_forth (Remainder a k) = (refl, refl, refl)
-form_forth (Between a b) = (refl, refl, refl)
-form_forth (AtLeast a) = (refl, refl, refl)
-form_forth (AtMost a) = (refl, refl, refl)
-form_forth (Channels s) = (refl, refl, refl)
-form_forth (Union a b) = (refl, refl, refl)
-form_forth (Intersection a b) = (refl, refl, refl)
-form_forth (Complement a) = (refl, refl, refl)
-form_forth (Shift a b) = (refl, refl, refl)
+form_forth x = grind arith
 
 narrower : (low high k : ℤ) → le_z (negsuc 999) low ≡ true → le_z high (pos 1000) ≡ true → within low high k ≡ true → within (negsuc 999) (pos 1000) k ≡ true
 narrower low high k l h w = grind (arith, ints)
@@ -106,25 +88,8 @@ number_forth (negsuc n) w =
 fields_forth : (f : Fields) → within (negsuc 999) (pos 1000) f.k ≡ true → node_fields (fields_bytes f) ≡ f
 fields_forth f w = rw (number_forth f.k w)
 
--- a chain of tests that all pass
-passing :
-    {X : Type 0} (a b c d : Bool) (e₁ e₂ e₃ e₄ : Flaw) (x : X) → a ≡ true → b ≡ true → c ≡ true → d ≡ false
-    → cond (not a) (Err e₁) (cond (not b) (Err e₂) (cond (not c) (Err e₃) (cond d (Err e₄) (Ok x)))) ≡ Ok x
-passing a b c d e₁ e₂ e₃ e₄ x p q r s = rw (p, q, r, s)
-
 row_forth : (n : ℕ) (before : List Node) (x : Node) (row : Shape) (f : Fields) → Row n before x.depth row f → within (negsuc 999) (pos 1000) f.k ≡ true → node_of_row n before x.form row f ≡ Ok x
-row_forth n before x row f r w =
-    let deep = depth_of before row f.a f.b in
-    let shallow : ltb 8 deep ≡ false = le-ltb 8 deep (omega (arith, r.deep, r.shallow)) in
-    let same : record { form = x.form; depth = deep } ≡ x = ap (λ n. record { form = x.form; depth = n }) (sym r.deep) in
-    passing
-    (number_fits row f.k)
-    (there n before row.a f.a && there n before row.b f.b)
-    (of_sort before row.a f.a && of_sort before row.b f.b)
-    (ltb 8 deep)
-    NumberOutside NotThere WrongSort TooDeep (record { form = x.form; depth = deep })
-    (and_from _ _ w r.limits) (and_from _ _ r.a_there r.b_there) (and_from _ _ r.a_sort r.b_sort) shallow
-    ∙ ap Ok same
+row_forth n before x row f r w = grind (arith, nat_tests)
 
 node_forth : (c : Content) (at : Place) (x : Node) → c.rules ≡ [] → length c.nodes < 255 → sound_node (length c.stations) c.nodes x ≡ true → added c node (node_bytes x) at ≡ Ok (with_node c x)
 node_forth c at x no-rules few sound =
@@ -141,24 +106,8 @@ node_forth c at x no-rules few sound =
     ap (put (with_node c) at) all
 
 -- a rule's record
-claim_parts : (n : ℕ) (nodes : List Node) (c : Claim) → sound_claim n nodes c ≡ true
-    → ((there n nodes slot.Station c.station && there n nodes slot.Range c.range) ≡ true) × (of_sort nodes slot.Range c.range ≡ true)
-claim_parts n nodes c e = and_parts (there n nodes slot.Station c.station && there n nodes slot.Range c.range) (of_sort nodes slot.Range c.range) e
-
 kind_forth : (n : ℕ) (nodes : List Node) (x : Rule) → sound_rule n nodes x ≡ true → rule_of_kind n nodes (rule_bytes x) ≡ Ok x
-kind_forth n nodes (Plain c) e =
-    let p = claim_parts n nodes c e in
-    passing
-    ((there n nodes slot.Station c.station && there n nodes slot.Range c.range) && true) (of_sort nodes slot.Range c.range && true) true false
-    NotThere WrongSort WrongSort TooDeep (Plain c) (and_from _ true p.0 refl) (and_from _ true p.1 refl) refl refl
-kind_forth n nodes (Conditional c d) e =
-    let both = and_parts (sound_claim n nodes c) (sound_claim n nodes d) e in
-    let p = claim_parts n nodes c both.0 in
-    let q = claim_parts n nodes d both.1 in
-    passing
-    ((there n nodes slot.Station c.station && there n nodes slot.Range c.range) && (there n nodes slot.Station d.station && there n nodes slot.Range d.range))
-    (of_sort nodes slot.Range c.range && of_sort nodes slot.Range d.range) true false
-    NotThere WrongSort WrongSort TooDeep (Conditional c d) (and_from _ _ p.0 q.0) (and_from _ _ p.1 q.1) refl refl
+kind_forth n nodes x e = grind (arith, nat_tests)
 
 rule_forth : (c : Content) (at : Place) (x : Rule) → length c.rules < 255 → sound_rule (length c.stations) c.nodes x ≡ true → added c rule (rule_bytes x) at ≡ Ok (with_rule c x)
 rule_forth c at x few sound =
@@ -232,3 +181,7 @@ module _ (c : Content) (v : Valid c) (some : 0 < length c.stations) (words : Wor
       [] c.rules b.0 [] refl (rw append-nil b.1) in
       let one : eqb (length c.stations) 0 ≡ false = grind (arith, nat_tests) in
       rw one at (still_ends c d.0 [] r d.1 refl)
+
+-- so is every sheet
+pub sheet_forth : (s : Sheet) → ReadBack (content s)
+sheet_forth s = read_back (content s) (valid s) (some_station s)

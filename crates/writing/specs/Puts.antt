@@ -1,12 +1,7 @@
 -- Bytes put into a caller's buffer.
-use Rattle.std.specs.Prelude.{◌≡◌, ℕ, ◌+◌, ◌<◌, List, ◌++◌, length, take, drop, Ok, Err, Result}
+use Rattle.std.specs.Prelude.{◌≡◌, ℕ, ◌<◌, List, ◌++◌, length, drop, Ok, Err, Result}
 use Rattle.faults.specs.declared.PlanFault.{PlanFault}
 use Rattle.faults.specs.declared.PlanFault.TheVariants.{TooShort}
-
--- bytes stand from a place on, and what is before and behind them is as it was
-pub record Put (at : ℕ) (bytes before after : List ℕ) : Type 0 where
-  pub front : take (at + length bytes) after ≡ take at before ++ bytes
-  pub behind : drop (at + length bytes) after ≡ drop (at + length bytes) before
 
 -- written: all bytes at the front, and how many; or refused, where they do not fit, and nothing is changed
 abbrev pub Writes : List ℕ → List ℕ → List ℕ → Result ℕ PlanFault → Type 0

@@ -1,76 +1,69 @@
 // What is written one after another: stations, nodes and rules.
-ghost use Rattle.std.specs.Prelude.{◌≡◌, ℕ, ◌+◌, ◌≤◌, List, length};
+ghost use Rattle.std.specs.Prelude.{◌≡◌, ℕ, ◌≤◌, ◌++◌, List, length, drop, refl};
 ghost use Rattle.std.specs.List.{flat_map};
-ghost use Rattle.writing.specs.Puts.{Put};
+ghost use Rattle.sheet.specs.declared.form.Rule.TheVariants.{Plain, Conditional};
 ghost use Rattle.writing.specs.Written.{station_bytes, node_bytes, rule_bytes};
 
 use sheet::{Fields, Node, Rule};
 
-// Copies a part into a buffer, from a place on, and says where it ends.
-fn copy(out: &mut [u8], at: usize, part: &[u8]) -> usize
-    requires { at + length part.now ≤ length out.old }
-    ensures put { Put at part.now out.old out.new }
-    ensures end { result ≡ at + length part.now }
-{
-    let end = at + part.len();
-    out[at..end].copy_from_slice(part);
-    end
-}
-
-// What has a record of its own.
-pub(crate) trait Entry {
+// What has a record of its own, of N bytes.
+pub(crate) trait Entry<const N: usize> {
     // the bytes of the record
     ghost bytes: { Self → List ℕ };
 
-    fn put(&self, out: &mut [u8], at: usize) -> usize
-        requires { at + length (bytes self.now) ≤ length out.old }
-        ensures put { Put at (bytes self.now) out.old out.new }
-        ensures end { result ≡ at + length (bytes self.now) };
+    fn record(&self) -> [u8; N]
+        ensures { result ≡ bytes self.now };
+
+    ghost sized: { (x : Self) → length (bytes x) ≡ N };
 }
 
-impl Entry for u64 {
+impl Entry<10> for u64 {
     ghost bytes = { station_bytes };
 
-    fn put(&self, out: &mut [u8], at: usize) -> usize {
+    ghost sized = { λ _. refl };
+
+    fn record(&self) -> [u8; 10] {
         let [a, b, c, d, e, f, g, h] = self.to_be_bytes();
-        copy(out, at, &[b'S', b'T', a, b, c, d, e, f, g, h])
+        [b'S', b'T', a, b, c, d, e, f, g, h]
     }
 }
 
-impl Entry for Node {
+impl Entry<7> for Node {
     ghost bytes = { node_bytes };
 
-    fn put(&self, out: &mut [u8], at: usize) -> usize {
-        let Fields { kind, a, b, k } = self.form.fields();
+    ghost sized = { λ _. refl };
+
+    fn record(&self) -> [u8; 7] {
+        let Fields { kind, a, b, k } = self.form.into();
         let [high, low] = k.to_be_bytes();
-        copy(out, at, &[b'N', b'D', kind, a, b, high, low])
+        [b'N', b'D', kind, a, b, high, low]
     }
 }
 
-impl Entry for Rule {
+impl Entry<7> for Rule {
     ghost bytes = { rule_bytes };
 
-    fn put(&self, out: &mut [u8], at: usize) -> usize {
+    ghost sized = { elim [ Plain _ ↦ refl | Conditional _ _ ↦ refl ] };
+
+    fn record(&self) -> [u8; 7] {
         match *self {
-            Rule::Plain(c) => copy(out, at, &[b'R', b'U', 0, c.station, c.range, 0, 0]),
-            Rule::Conditional(c, d) => copy(
-                out,
-                at,
-                &[b'R', b'U', 1, c.station, c.range, d.station, d.range],
-            ),
+            Rule::Plain(c) => [b'R', b'U', 0, c.station, c.range, 0, 0],
+            Rule::Conditional(c, d) => [b'R', b'U', 1, c.station, c.range, d.station, d.range],
         }
     }
 }
 
-// Puts all items one behind another, from a place on, and says where they end.
-pub(crate) fn put_all<T: Entry>(items: &[T], out: &mut [u8], at: usize) -> usize
-    requires { at + length (flat_map T.bytes items.now) ≤ length out.old }
-    ensures put { Put at (flat_map T.bytes items.now) out.old out.new }
-    ensures end { result ≡ at + length (flat_map T.bytes items.now) }
+// Puts the records of all items one behind another at the front of a buffer, and says how many bytes they are.
+pub(crate) fn put_all<const N: usize, T: Entry<N>>(items: &[T], out: &mut [u8]) -> usize
+    requires { length (flat_map T.bytes items.now) ≤ length out.old }
+    ensures put { out.new ≡ flat_map T.bytes items.now ++ drop (length (flat_map T.bytes items.now)) out.old }
+    ensures end { result ≡ length (flat_map T.bytes items.now) }
 {
-    let mut end = at;
+    let mut end = 0;
     for item in items {
-        end = item.put(out, end);
+        let record = item.record();
+        out[end..end + N].copy_from_slice(&record);
+        end += N;
     }
     end
 }

@@ -21,6 +21,7 @@ pub fn size(sheet: &Sheet) -> usize
 
 // Writes a sheet's bytes to the front of a buffer and says how many; a buffer that is too short stays as it was.
 // Whatever bytes the sheet was read from are these, and from these it is read again.
+#[tactic(auto, using(crate::proofs::Back::written_back, crate::proofs::Forth::sheet_forth))]
 pub fn write(sheet: &Sheet, out: &mut [u8]) -> Result<usize, PlanFault>
     ensures writes { Writes (written (content sheet.now)) out.old out.new result }
     ensures back { WrittenBack (content sheet.now) }
@@ -29,7 +30,7 @@ pub fn write(sheet: &Sheet, out: &mut [u8]) -> Result<usize, PlanFault>
     if out.len() < size(sheet) {
         return Err(PlanFault::TooShort);
     }
-    let nodes_at = put_all(sheet.stations.as_slice(), out, 0);
-    let rules_at = put_all(sheet.nodes.as_slice(), out, nodes_at);
-    Ok(put_all(sheet.rules.as_slice(), out, rules_at))
+    let nodes_at = put_all(&sheet.stations, out);
+    let rules_at = nodes_at + put_all(&sheet.nodes, &mut out[nodes_at..]);
+    Ok(rules_at + put_all(&sheet.rules, &mut out[rules_at..]))
 }

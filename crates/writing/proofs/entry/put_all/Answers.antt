@@ -1,30 +1,29 @@
-use Rattle.std.proofs.Common.{◌<◌, length, take, arith}
-use Rattle.std.proofs.lemmas.List.{length-append, take_all}
-use Rattle.std.specs.List.{flat_map}
-use Rattle.writing.proofs.Puts.{put-put, joined_take, joined_room}
+use Rattle.std.proofs.Common.{rules, arith}
+use Rattle.writing.proofs.Puts.{joined_room, length-joined_take, put_more}
 use Rattle.writing.proofs.entry.put_all.Goals as goal
 
-pub put-end-requires : goal.put-end-requires
-put-end-requires g c =
-    let lt : c.loop-item.item-index < length c.args.items.now = omega arith in
-    omega (arith, joined_room g.T.Entry.bytes c.args.items.now c.loop-item.item-index c.item-item.result lt c.item-item.is, c.loop-item.invariant.1)
+pub record-record-requires : goal.record-record-requires
+record-record-requires g c =
+    omega (arith, joined_room g.T.Entry.bytes _ _ _ c.loop-item-test.true c.item-item.is, g.met.T.Entry.sized c.item-item.result)
+
+pub overflow_add-end : goal.overflow_add-end
+overflow_add-end g c =
+    omega (arith, joined_room g.T.Entry.bytes _ _ _ c.loop-item-test.true c.item-item.is, g.met.T.Entry.sized c.item-item.result)
+
+pub slice_bounds-copy_from_slice-end : goal.slice_bounds-copy_from_slice-end
+slice_bounds-copy_from_slice-end g c =
+    let room = joined_room g.T.Entry.bytes _ _ _ c.loop-item-test.true c.item-item.is in
+    let size = g.met.T.Entry.sized c.item-item.result in
+    search rules
 
 pub loop-item-preserved : goal.loop-item-preserved
 loop-item-preserved g c =
-    let f = g.T.Entry.bytes in
-    let xs = c.args.items.now in
-    let i = c.loop-item.item-index in
-    let x = c.item-item.result in
-    let lt : i < length xs = omega arith in
-    let more = joined_take f xs i x lt c.item-item.is in
-    let here = c.loop-item.invariant.1 in
-    rw more (
-      put-put c.args.at (flat_map f (take i xs)) (f x) c.args.out.now c.loop-item.out c.put-end.new.out
-          c.loop-item.invariant.0 (rw (← here) c.put-end.ensures.put),
-      omega (arith, length-append (flat_map f (take i xs)) (f x), here, c.put-end.ensures.end),
-    )
-
-pub returns : goal.returns
-returns g c =
-    let all = take_all c.loop-item.item-index c.args.items.now (omega arith) in
-    rw (← all) record { put = c.loop-item.invariant.0; end = c.loop-item.invariant.1 }
+    let room = joined_room g.T.Entry.bytes _ _ _ c.loop-item-test.true c.item-item.is in
+    let more = length-joined_take g.T.Entry.bytes _ _ _ c.loop-item-test.true c.item-item.is in
+    let size = g.met.T.Entry.sized c.item-item.result in
+    record {
+      put =
+          rw (c.copy_from_slice.ensures.after, c.record-record.ensures, c.loop-item.invariant.put)
+          (put_more _ _ _ _ _ _ _ c.loop-item-test.true c.item-item.is size c.loop-item.invariant.ended (omega arith));
+      ended = omega arith;
+    }
