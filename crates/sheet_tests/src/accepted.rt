@@ -68,42 +68,42 @@ ND\x17\x0d\x05\x00\x00\
 RU\x00\x01\x0e\x00\x00\
 RU\x01\x00\x0a\x01\x0b";
 
-// Whether node i of those bytes says what it should, and has the depth that it should.
+// What the nodes of those bytes say, and their depths.
 // The k of the first, fc 18, is 64536 - 65536; that of the one of kind 4, ff f0, is 65520 - 65536.
-fn is_node(i: usize, node: Node) -> bool {
-    match (i, node.depth, node.form) {
-        (0, 1, Form::Number(-1000)) => true,
-        (1, 1, Form::Station(1)) => true,
-        (2, 2, Form::Sum(0, 1)) => true,
-        (3, 3, Form::Difference(1, 2)) => true,
-        (4, 4, Form::Multiple(-16, 3)) => true,
-        (5, 5, Form::Quotient(4, 64)) => true,
-        (6, 2, Form::Remainder(0, 1)) => true,
-        (7, 2, Form::Between(1, 0)) => true,
-        (8, 3, Form::AtLeast(2)) => true,
-        (9, 2, Form::AtMost(1)) => true,
-        (10, 1, Form::Channels(1)) => true,
-        (11, 4, Form::Union(7, 8)) => true,
-        (12, 3, Form::Intersection(10, 9)) => true,
-        (13, 4, Form::Complement(12)) => true,
-        (14, 6, Form::Shift(13, 5)) => true,
-        _ => false,
-    }
+fn nodes() -> [Node; 15] {
+    [
+        node(Form::Number(-1000), 1),
+        node(Form::Station(1), 1),
+        node(Form::Sum(0, 1), 2),
+        node(Form::Difference(1, 2), 3),
+        node(Form::Multiple(-16, 3), 4),
+        node(Form::Quotient(4, 64), 5),
+        node(Form::Remainder(0, 1), 2),
+        node(Form::Between(1, 0), 2),
+        node(Form::AtLeast(2), 3),
+        node(Form::AtMost(1), 2),
+        node(Form::Channels(1), 1),
+        node(Form::Union(7, 8), 4),
+        node(Form::Intersection(10, 9), 3),
+        node(Form::Complement(12), 4),
+        node(Form::Shift(13, 5), 6),
+    ]
 }
 
-// Whether rule i of those bytes says what it should.
-fn is_rule(i: usize, rule: Rule) -> bool {
-    match (i, rule) {
-        (0, Rule::Plain(claim)) => is_claim(claim, 1, 14),
-        (1, Rule::Conditional(condition, consequence)) => {
-            is_claim(condition, 0, 10) && is_claim(consequence, 1, 11)
-        }
-        _ => false,
-    }
+fn node(form: Form, depth: u8) -> Node {
+    Node { form, depth }
 }
 
-fn is_claim(claim: Claim, station: u8, range: u8) -> bool {
-    claim.station == station && claim.range == range
+// What the rules of those bytes say.
+fn rules() -> [Rule; 2] {
+    [
+        Rule::Plain(claim(1, 14)),
+        Rule::Conditional(claim(0, 10), claim(1, 11)),
+    ]
+}
+
+fn claim(station: u8, range: u8) -> Claim {
+    Claim { station, range }
 }
 
 #[test]
@@ -114,12 +114,7 @@ fn what_the_bytes_say(rt: HostRuntime) -> Result<(), Fail> {
         sheet.stations.as_slice(),
         [0x8000000000000001, 258].as_slice()
     );
-    assert_eq!(rt; (sheet.nodes.len(), sheet.rules.len()), (15, 2));
-    for (i, node) in sheet.nodes.iter().enumerate() {
-        assert!(rt; is_node(i, *node), "node {i}");
-    }
-    for (i, rule) in sheet.rules.iter().enumerate() {
-        assert!(rt; is_rule(i, *rule), "rule {i}");
-    }
+    assert_eq!(rt; sheet.nodes.as_slice(), nodes().as_slice());
+    assert_eq!(rt; sheet.rules.as_slice(), rules().as_slice());
     Ok(())
 }

@@ -4,7 +4,11 @@
 #[cfg(test)]
 mod accepted;
 #[cfg(test)]
+mod kinds;
+#[cfg(test)]
 mod numbered;
+#[cfg(test)]
+mod printed;
 #[cfg(test)]
 mod refused;
 mod rows;

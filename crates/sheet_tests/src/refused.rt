@@ -25,10 +25,7 @@ fn told(wanted: (u8, Layer, usize, usize)) -> Told {
 
 // What the bytes are refused with; nothing where they are accepted.
 fn refusal(heap: Global, bytes: &[u8]) -> Option<Told> {
-    match read(heap, bytes) {
-        Ok(_) => None,
-        Err(fault) => Some(fault.told()),
-    }
+    read(heap, bytes).err().map(|fault| fault.told())
 }
 
 fn are_refused(rt: &impl Abort, heap: Global, cases: &[Case]) -> Result<(), Fail> {

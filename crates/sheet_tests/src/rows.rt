@@ -16,12 +16,6 @@ pub enum Row {
     Again(u16),
 }
 
-fn push_node(bytes: &mut Vec<u8>, fields: [u8; 3], k: i16) -> Result<(), AllocError> {
-    bytes.extend_from_slice(b"ND")?;
-    bytes.extend_from_slice(&fields)?;
-    bytes.extend_from_slice(&k.to_be_bytes())
-}
-
 // The bytes of one record more. A row that says "again" is none.
 fn push_row(bytes: &mut Vec<u8>, row: Row) -> Result<(), AllocError> {
     match row {
@@ -29,11 +23,19 @@ fn push_row(bytes: &mut Vec<u8>, row: Row) -> Result<(), AllocError> {
             bytes.extend_from_slice(b"ST")?;
             bytes.extend_from_slice(&channels.to_be_bytes())
         }
-        Row::Nd(kind, a, b, k) => push_node(bytes, [kind, a, b], k),
-        Row::Ru(kind, station, node, station2, node2) => {
-            bytes.extend_from_slice(b"RU")?;
-            bytes.extend_from_slice(&[kind, station, node, station2, node2])
+        Row::Nd(kind, a, b, k) => {
+            let [high, low] = k.to_be_bytes();
+            bytes.extend_from_slice(&[b'N', b'D', kind, a, b, high, low])
         }
+        Row::Ru(kind, station, node, second_station, second_node) => bytes.extend_from_slice(&[
+            b'R',
+            b'U',
+            kind,
+            station,
+            node,
+            second_station,
+            second_node,
+        ]),
         Row::Raw(part) => bytes.extend_from_slice(part),
         Row::Again(_) => Ok(()),
     }

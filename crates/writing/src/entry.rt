@@ -11,9 +11,11 @@ pub(crate) trait Entry<const N: usize> {
     // the bytes of the record
     ghost bytes: { Self → List ℕ };
 
+    // The record, mark included.
     fn record(&self) -> [u8; N]
         ensures { result ≡ bytes self.now };
 
+    // each record has that many bytes
     ghost sized: { (x : Self) → length (bytes x) ≡ N };
 }
 
@@ -34,7 +36,7 @@ impl Entry<7> for Node {
     ghost sized = { λ _. refl };
 
     fn record(&self) -> [u8; 7] {
-        let Fields { kind, a, b, k } = self.form.into();
+        let Fields { kind, a, b, k } = Fields::from(self.form);
         let [high, low] = k.to_be_bytes();
         [b'N', b'D', kind, a, b, high, low]
     }
