@@ -1,5 +1,5 @@
 -- How a fault is printed.
-use Rattle.std.specs.Prelude.{List, ℕ, ◌++◌, Some, None, codes}
+use Rattle.std.specs.Prelude.{ℕ, List, [], ◌++◌, Some, None, Option, codes}
 use Rattle.std.specs.Fmt.{decimal}
 use Rattle.faults.specs.declared.Place.{Place}
 use Rattle.faults.specs.declared.Layer.{Layer}
@@ -17,14 +17,11 @@ layer_text Machine = codes "machine"
 abbrev pub place_text : Place → List ℕ
 place_text p = codes "record " ++ (decimal p.«record» ++ (codes " byte " ++ decimal p.byte))
 
--- a number and its layer
-abbrev pub number_text : ℕ → Layer → List ℕ
-number_text n l = decimal n ++ (codes " layer " ++ layer_text l)
+-- a place behind other text, if there is one
+abbrev pub text_behind : Option Place → List ℕ
+text_behind (Some p) = codes " " ++ place_text p
+text_behind None = []
 
 -- what a fault is told as: its number, its layer, and its place if it has one
 abbrev pub told_text : Told → List ℕ
-told_text t =
-    elim t.place [
-      | Some p ↦ number_text t.number t.layer ++ (codes " " ++ place_text p)
-      | None ↦ number_text t.number t.layer
-    ]
+told_text t = decimal t.number ++ (codes " layer " ++ (layer_text t.layer ++ text_behind t.place))

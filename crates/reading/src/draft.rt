@@ -1,5 +1,5 @@
 // What was read so far, and one record more.
-ghost use Rattle.std.specs.Prelude.{◌≡◌, ◌<◌, ◌≤◌, true, is_ok, vec_len, vec_capacity};
+ghost use Rattle.std.specs.Prelude.{◌≡◌, ◌<◌, ◌≤◌, OnOk, vec_len, vec_capacity};
 ghost use Rattle.sheet.specs.Content.{Valid};
 ghost use Rattle.sheet.specs.Limits.{most_stations, most_nodes, most_rules};
 
@@ -40,7 +40,7 @@ impl Draft {
     // The channels of a station's record.
     fn station(&self, part: &[u8; 10]) -> Result<u64, Flaw>
         ensures value { result ≡ station_of (drafted self.now) part.now }
-        ensures room { is_ok result ≡ true → vec_len self.now.stations < most_stations }
+        ensures room { OnOk result (vec_len self.now.stations < most_stations) }
     {
         if !self.nodes.is_empty() || !self.rules.is_empty() {
             return Err(Flaw::OutOfOrder);
@@ -58,7 +58,7 @@ impl Draft {
     // The node of a node's record.
     fn node(&self, part: &[u8; 7]) -> Result<Node, Flaw>
         ensures value { result ≡ node_of (drafted self.now) part.now }
-        ensures room { is_ok result ≡ true → vec_len self.now.nodes < most_nodes }
+        ensures room { OnOk result (vec_len self.now.nodes < most_nodes) }
     {
         if !self.rules.is_empty() {
             return Err(Flaw::OutOfOrder);
@@ -72,7 +72,7 @@ impl Draft {
     // The rule of a rule's record.
     fn rule(&self, part: &[u8; 7]) -> Result<Rule, Flaw>
         ensures value { result ≡ rule_of (drafted self.now) part.now }
-        ensures room { is_ok result ≡ true → vec_len self.now.rules < most_rules }
+        ensures room { OnOk result (vec_len self.now.rules < most_rules) }
     {
         if self.rules.len() >= MOST_RULES {
             return Err(Flaw::TooMany);

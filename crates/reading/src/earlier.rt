@@ -66,6 +66,13 @@ impl Earlier<'_> {
         }
     }
 
+    // What the two bytes of a claim name is there.
+    fn has_claim(&self, slots: (Slot, Slot), claim: Claim) -> bool
+        ensures { result ≡ (there self.now.stations self.now.nodes.now slots.0 claim.station && there self.now.stations self.now.nodes.now slots.1 claim.range) }
+    {
+        self.has(slots.0, claim.station) && self.has(slots.1, claim.range)
+    }
+
     // The node of a number; the number 0 stands in where there is none.
     fn node_at(&self, v: u8) -> Node
         ensures { result ≡ slice_index_or self.now.nodes.now v missing_node }
@@ -149,13 +156,6 @@ impl Earlier<'_> {
             return Err(Flaw::WrongSort);
         }
         Ok(rule)
-    }
-
-    // What the two bytes of a claim name is there.
-    fn has_claim(&self, slots: (Slot, Slot), claim: Claim) -> bool
-        ensures { result ≡ (there self.now.stations self.now.nodes.now slots.0 claim.station && there self.now.stations self.now.nodes.now slots.1 claim.range) }
-    {
-        self.has(slots.0, claim.station) && self.has(slots.1, claim.range)
     }
 
     // A rule by its record, behind all nodes.

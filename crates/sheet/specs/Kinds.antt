@@ -1,6 +1,7 @@
 -- The table of kinds: for each kind of node what its bytes a and b stand for, and the limits of its number k.
-use Rattle.std.specs.Prelude.{ℕ, Bool, true, false, cond, List, pos, negsuc, Some, None, Option, Ok, Err, Result, ◌++◌, ◌==◌, codes}
+use Rattle.std.specs.Prelude.{ℕ, Bool, true, false, cond, List, pos, negsuc, Some, None, Option, Result, ◌++◌, ◌==◌, codes}
 use Rattle.std.specs.Fmt.{decimal}
+use Rattle.std.specs.Option.{ok_or}
 use Rattle.sheet.specs.declared.form.Form.{Form}
 use Rattle.sheet.specs.declared.form.Form.TheVariants.{Number, Station, Sum, Difference, Multiple, Quotient, Remainder, Between, AtLeast, AtMost, Channels, Union, Intersection, Complement, Shift}
 use Rattle.sheet.specs.declared.form.Slot.{Slot}
@@ -88,11 +89,7 @@ form_of f =
 
 -- that node, or that its kind is unknown
 abbrev pub known_form : Fields → Result Form UnknownKind
-known_form f =
-    elim (form_of f) [
-      | Some x ↦ Ok x
-      | None ↦ Err (record { 0 = f.kind })
-    ]
+known_form f = ok_or (form_of f) (record { 0 = f.kind })
 
 -- how an unknown kind is printed
 abbrev pub unknown_text : UnknownKind → List ℕ
