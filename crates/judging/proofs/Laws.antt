@@ -1,6 +1,8 @@
 -- The laws of the terms and ranges of a sheet.
 use Rattle.std.proofs.Common.{◌≡◌, ℕ, ◌<◌, Bool, true, ◌&&◌, ltb, length}
-use Rattle.sheet.specs.Content.{Content, Valid}
+use Rattle.sheet.proofs.Types.{valid}
+use Rattle.sheet.specs.Content.{Content, Valid, content}
+use Rattle.sheet.specs.declared.valid.Sheet.{Sheet}
 use Rattle.std.proofs.lemmas.Bool.{and_parts, ltb-true}
 use Rattle.judging.specs.Laws.{JudgingLaws}
 use Rattle.judging.proofs.Ints.{division}
@@ -20,3 +22,6 @@ judging_laws s v =
       bounded = λ i e D. term_limit _ _ k D i (there i _ e) (bounded_depth _ _ v.nodes_sound i (there i _ e));
       division = division;
     }
+
+pub sheet_laws : (s : Sheet) → JudgingLaws (content s)
+sheet_laws s = judging_laws _ (valid s)

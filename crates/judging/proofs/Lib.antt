@@ -9,3 +9,4 @@ pub mod RangeLaws
 pub mod Shifts
 pub mod TermLaws
 pub mod Trees
+pub mod Zeros

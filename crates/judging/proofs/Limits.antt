@@ -1,5 +1,5 @@
 -- How far the terms of a sheet lie from 0, whatever the channels.
-use Rattle.std.proofs.Common.{◌≡◌, ℕ, zero, suc, ◌<◌, ◌≤◌, Bool, true, false, cond, List, length, get_or, ℤ, pos, negsuc, ◌-ℤ◌, ◌*ℤ◌, nat_abs, vec_items, vec_len, sym, subst, mod-lt, div-le_self, arith}
+use Rattle.std.proofs.Common.{◌≡◌, ℕ, zero, suc, ◌<◌, ◌≤◌, Bool, true, false, cond, List, length, get_or, ℤ, pos, negsuc, ◌-ℤ◌, ◌*ℤ◌, nat_abs, sym, subst, mod-lt, div-le_self, arith}
 use borrow.Author.Differences.{ints}
 use lib.Signed.{lt_z}
 use Rattle.masks.proofs.Sets.{lowest-le, highest-le}
@@ -9,17 +9,18 @@ use Rattle.sheet.specs.Sound.{missing_node}
 use Rattle.sheet.specs.declared.form.Form.{Form}
 use Rattle.sheet.specs.declared.form.Form.TheVariants.{Number, Station, Sum, Difference, Multiple, Quotient, Remainder, Between, AtLeast, AtMost, Channels, Union, Intersection, Complement, Shift}
 use Rattle.sheet.specs.declared.form.Node.{Node}
-use Rattle.sheet.specs.declared.valid.Sheet.{Sheet}
 use Rattle.std.specs.Int.{int_div_euclid, int_rem_euclid}
 use Rattle.judging.specs.Answers.{ends_of}
 use Rattle.judging.specs.Bounds.{bound, Bounded}
 use Rattle.judging.specs.Judged.{same, least, greatest}
+use Rattle.judging.specs.JudgedNodes.{depth_of, term_of as term}
 use Rattle.judging.specs.Known.{Known}
 use Rattle.judging.specs.Nodes.{as_term, depth_at, term_of}
 use Rattle.judging.specs.Trees.{Term}
+use Rattle.judging.specs.declared.node.JudgedNode.{JudgedNode}
 use Rattle.judging.specs.declared.values.Ends.{Ends}
 use Rattle.judging.proofs.Bounds.{times_within}
-use Rattle.judging.proofs.Nodes.{known}
+use Rattle.judging.proofs.Nodes.{known, bounded_depth, depths}
 use Rattle.judging.proofs.Trees.{term_step}
 
 -- the size of a quotient, and of a remainder
@@ -94,6 +95,20 @@ module _ (n : ℕ) (nodes : List Node) (each : (i : ℕ) → i < length nodes �
       let p = reached (suc i) i (omega arith) h in
       record { low = subst (λ (z : ℤ). nat_abs z ≤ bound (depth_at nodes i)) (sym l) p.low; high = subst (λ (z : ℤ). nat_abs z ≤ bound (depth_at nodes i)) (sym g) p.high }
 
-pub within_sheet : (s : Sheet) (D : List ℕ) (i : ℕ) (e : Ends) → i < vec_len s.nodes → e.least ≡ least D (term_of (vec_items s.nodes) i)
-    → e.greatest ≡ greatest D (term_of (vec_items s.nodes) i) → Bounded (bound (depth_at (vec_items s.nodes) i)) e
-within_sheet s D i e h l g = ends_within _ _ (known _ _ s.few_stations s.nodes_sound) D i (omega (arith, s.nodes.ok)) e l g
+pub within_bound : (x : JudgedNode) (e : Ends) → e.least ≡ least x.judge.domains.now (term x) → e.greatest ≡ greatest x.judge.domains.now (term x) → Bounded (bound (depth_of x)) e
+within_bound x e l g =
+    let s = x.judge.sheet.now in
+    ends_within _ _ (known _ _ s.few_stations s.nodes_sound) x.judge.domains.now x.number (omega (arith, s.nodes.ok, x.there)) e l g
+
+-- so no node's ends leave the widest limits
+pub within_limits : (x : JudgedNode) (e : Ends) → Bounded (bound (depth_of x)) e → Bounded 268435456000 e
+within_limits x e p =
+    let s = x.judge.sheet.now in
+    let b : bound (depth_of x) ≤ 268435456000 = bounded_depth _ _ s.nodes_sound x.number (omega (arith, s.nodes.ok, x.there)) in
+    record { low = omega (arith, p.low); high = omega (arith, p.high) }
+
+-- a node is at most 8 deep
+pub shallow : (x : JudgedNode) → depth_of x ≤ 8
+shallow x =
+    let s = x.judge.sheet.now in
+    (depths _ _ s.nodes_sound x.number (omega (arith, s.nodes.ok, x.there))).1

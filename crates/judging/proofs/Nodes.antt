@@ -15,7 +15,7 @@ use Rattle.sheet.specs.declared.form.Form.{Form}
 use Rattle.sheet.specs.declared.form.Form.TheVariants.{Number, Station, Sum, Difference, Multiple, Quotient, Remainder, Between, AtLeast, AtMost, Channels, Union, Intersection, Complement, Shift}
 
 -- every node has a depth from 1 to 8
-depths : (n : ℕ) (nodes : List Node) → SoundNodes n nodes → (i : ℕ) → i < length nodes → (1 ≤ depth_at nodes i) × (depth_at nodes i ≤ 8)
+pub depths : (n : ℕ) (nodes : List Node) → SoundNodes n nodes → (i : ℕ) → i < length nodes → (1 ≤ depth_at nodes i) × (depth_at nodes i ≤ 8)
 depths n nodes sound i h =
     let x : Form = (get_or nodes i missing_node).form in
     let r : Row n (take i nodes) (depth_at nodes i) (shape_of x) (fields_of x) = row_of n (take i nodes) _ _ _ (sound i h) in

@@ -1,8 +1,9 @@
 pub mod Answers
-pub mod Asked
 pub mod Bounds
 pub mod Judged
+pub mod JudgedNodes
 pub mod Known
 pub mod Laws
 pub mod Nodes
+pub mod Passing
 pub mod Trees

@@ -1,11 +1,15 @@
 // What a sheet's terms and ranges say of given channels.
 #![tactic(auto)]
 
-mod known;
+mod channels;
+mod ends;
+mod judge;
+mod named;
+mod node;
 mod ranges;
+mod sets;
 mod terms;
 mod values;
 
-pub use ranges::{certain, certain_among, possible, possible_among};
-pub use terms::ends;
-pub use values::{Domains, Ends};
+pub use channels::sheet_channels;
+pub use values::{Domains, Ends, Judge};
