@@ -1,4 +1,4 @@
 pub mod Claims
-pub mod Leaves
 pub mod Placed
 pub mod RuleLaws
+pub mod Sheets

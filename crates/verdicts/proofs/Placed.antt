@@ -8,7 +8,7 @@ use Rattle.sheet.specs.declared.form.Rule.TheVariants.{Plain, Conditional}
 use Rattle.std.proofs.lemmas.Bool.{and_from, and_parts, ltb-true}
 use Rattle.verdicts.specs.Placed.{Placed, PlacedRule}
 
-placed : (n : ℕ) (nodes : List Node) (k : Claim) → sound_claim n nodes k ≡ true → Placed n nodes k
+pub placed : (n : ℕ) (nodes : List Node) (k : Claim) → sound_claim n nodes k ≡ true → Placed n nodes k
 placed n nodes k e =
     let p = and_parts _ _ e in
     let q = and_parts _ _ p.0 in

@@ -1,4 +1,5 @@
 pub mod Answers
+pub mod JudgedRules
 pub mod Laws
 pub mod Placed
 pub mod Rules

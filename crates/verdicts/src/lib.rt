@@ -1,7 +1,8 @@
 // What given channels say of a sheet's rules, and what a rule leaves of them.
 #![tactic(auto)]
 
-mod known;
+mod claim;
+mod judged;
 mod rules;
 mod values;
 

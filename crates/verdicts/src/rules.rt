@@ -1,64 +1,17 @@
 // The verdict on a rule, and the channels that a rule leaves.
-ghost use Rattle.std.specs.Prelude.{◌≡◌, IfSome, vec_len};
-ghost use Rattle.judging.specs.Judged.{certain_among, possible_among};
-ghost use Rattle.judging.specs.Nodes.{range_of};
-ghost use Rattle.masks.specs.Tables.{at};
+ghost use Rattle.std.specs.Prelude.{◌≡◌, true, IfSome, vec_len};
+ghost use Rattle.judging.specs.JudgedNodes.{nodes_of};
 ghost use Rattle.sheet.specs.Content.{content};
+ghost use Rattle.sheet.specs.Sound.{sound_claim};
 ghost use Rattle.verdicts.specs.Answers.{left_on, MeansOn, verdict_on};
+ghost use Rattle.verdicts.specs.JudgedRules.{FindsRule};
 ghost use Rattle.verdicts.specs.Laws.{VerdictLaws};
-ghost use Rattle.verdicts.specs.Placed.{Placed, PlacedRule};
-ghost use Rattle.verdicts.specs.Rules.{all_certain, claim_leaves, claim_verdict, conditional, leaves, none_possible, rule_verdict, Within};
+ghost use Rattle.verdicts.specs.Rules.{conditional, leaves, rule_verdict, Within};
 
-use crate::known::rule_at;
+use crate::judged::{JudgedClaim, JudgedRule};
 use crate::values::{Narrowed, Verdict};
-use judging::{Domains, certain_among, possible_among};
-use sheet::{Claim, Rule, Sheet};
-
-// The channels of the claim's station that are certain in its range.
-fn certain_channels(sheet: &Sheet, domains: &Domains, claim: Claim) -> u64
-    requires { Placed (vec_len sheet.now.stations) sheet.now.nodes.items claim }
-    ensures { result ≡ certain_among domains.now (range_of sheet.now.nodes.items claim.range) (at domains.now claim.station) }
-{
-    certain_among(sheet, domains, claim.range, domains[claim.station as usize]).unwrap()
-}
-
-// The channels of the claim's station that are possible in its range.
-fn possible_channels(sheet: &Sheet, domains: &Domains, claim: Claim) -> u64
-    requires { Placed (vec_len sheet.now.stations) sheet.now.nodes.items claim }
-    ensures { result ≡ possible_among domains.now (range_of sheet.now.nodes.items claim.range) (at domains.now claim.station) }
-{
-    possible_among(sheet, domains, claim.range, domains[claim.station as usize]).unwrap()
-}
-
-// Whether every channel of the claim's station is certain in its range.
-fn is_sure(sheet: &Sheet, domains: &Domains, claim: Claim) -> bool
-    requires { Placed (vec_len sheet.now.stations) sheet.now.nodes.items claim }
-    ensures { result ≡ all_certain sheet.now.nodes.items domains.now claim }
-{
-    certain_channels(sheet, domains, claim) == domains[claim.station as usize]
-}
-
-// Whether no channel of the claim's station is possible in its range.
-fn is_broken(sheet: &Sheet, domains: &Domains, claim: Claim) -> bool
-    requires { Placed (vec_len sheet.now.stations) sheet.now.nodes.items claim }
-    ensures { result ≡ none_possible sheet.now.nodes.items domains.now claim }
-{
-    possible_channels(sheet, domains, claim) == 0
-}
-
-// The verdict on a claim.
-fn claim_verdict(sheet: &Sheet, domains: &Domains, claim: Claim) -> Verdict
-    requires { Placed (vec_len sheet.now.stations) sheet.now.nodes.items claim }
-    ensures { result ≡ claim_verdict sheet.now.nodes.items domains.now claim }
-{
-    if is_sure(sheet, domains, claim) {
-        Verdict::Sure
-    } else if is_broken(sheet, domains, claim) {
-        Verdict::Broken
-    } else {
-        Verdict::Open
-    }
-}
+use judging::Judge;
+use sheet::{Claim, Rule};
 
 // The verdict on a conditional rule, by those on its condition and its consequence.
 fn conditional_verdict(condition: Verdict, consequence: Verdict) -> Verdict
@@ -71,72 +24,78 @@ fn conditional_verdict(condition: Verdict, consequence: Verdict) -> Verdict
     }
 }
 
-// The verdict on a rule.
-fn rule_verdict(sheet: &Sheet, domains: &Domains, rule: Rule) -> Verdict
-    requires { PlacedRule (vec_len sheet.now.stations) sheet.now.nodes.items rule }
-    ensures { result ≡ rule_verdict sheet.now.nodes.items domains.now rule }
-{
-    match rule {
-        Rule::Plain(claim) => claim_verdict(sheet, domains, claim),
-        Rule::Conditional(condition, consequence) => conditional_verdict(
-            claim_verdict(sheet, domains, condition),
-            claim_verdict(sheet, domains, consequence),
-        ),
+impl<'a> JudgedRule<'a> {
+    // Rule `number`, if the sheet has it.
+    fn find(judge: Judge<'a>, number: usize) -> Option<JudgedRule<'a>>
+        ensures { FindsRule judge.entry number result }
+    {
+        let rule = *judge.sheet.rules.get(number)?;
+        Some(JudgedRule { judge, rule })
     }
-}
 
-// The verdict on rule `rule`; nothing where the sheet has no such rule.
-pub fn verdict(sheet: &Sheet, domains: &Domains, rule: usize) -> Option<Verdict>
-    ensures value { result ≡ verdict_on (content sheet.now) domains.now rule }
-    ensures means { MeansOn (content sheet.now) domains.now rule result }
-    ensures laws { VerdictLaws (content sheet.now) }
-{
-    if rule < sheet.rules.len() {
-        Some(rule_verdict(sheet, domains, rule_at(sheet, rule)))
-    } else {
-        None
+    // A claim that the rule makes.
+    #[tactic(auto, using(crate::proofs::Placed::placed))]
+    fn claim(self, claim: Claim) -> JudgedClaim<'a>
+        requires { sound_claim (vec_len self.judge.sheet.now.stations) (nodes_of self.judge) claim ≡ true }
+        ensures judge { result.judge ≡ self.entry.judge }
+        ensures claim { result.claim ≡ claim }
+    {
+        JudgedClaim {
+            judge: self.judge,
+            claim,
+        }
     }
-}
 
-// What a claim leaves of its station's channels.
-fn claim_left(sheet: &Sheet, domains: &Domains, claim: Claim) -> Narrowed
-    requires { Placed (vec_len sheet.now.stations) sheet.now.nodes.items claim }
-    ensures { result ≡ claim_leaves sheet.now.nodes.items domains.now claim }
-{
-    Narrowed {
-        station: claim.station,
-        channels: possible_channels(sheet, domains, claim),
+    // The verdict on the rule.
+    fn verdict(self) -> Verdict
+        ensures { result ≡ rule_verdict (nodes_of self.entry.judge) self.entry.judge.domains.now self.entry.rule }
+    {
+        match self.rule {
+            Rule::Plain(claim) => self.claim(claim).verdict(),
+            Rule::Conditional(condition, consequence) => conditional_verdict(
+                self.claim(condition).verdict(),
+                self.claim(consequence).verdict(),
+            ),
+        }
     }
-}
 
-// What a rule leaves of the channels of the station that it narrows. A conditional rule narrows only where its condition is sure.
-fn rule_left(sheet: &Sheet, domains: &Domains, rule: Rule) -> Narrowed
-    requires { PlacedRule (vec_len sheet.now.stations) sheet.now.nodes.items rule }
-    ensures { result ≡ leaves sheet.now.nodes.items domains.now rule }
-{
-    match rule {
-        Rule::Plain(claim) => claim_left(sheet, domains, claim),
-        Rule::Conditional(condition, consequence) => {
-            if is_sure(sheet, domains, condition) {
-                claim_left(sheet, domains, consequence)
-            } else {
-                Narrowed {
-                    station: consequence.station,
-                    channels: domains[consequence.station as usize],
+    // What the rule leaves of the channels of the station that it narrows. A conditional rule narrows only where its condition is sure.
+    fn left(self) -> Narrowed
+        ensures value { result ≡ leaves (nodes_of self.entry.judge) self.entry.judge.domains.now self.entry.rule }
+        ensures within { Within (vec_len self.entry.judge.sheet.now.stations) self.entry.judge.domains.now result }
+    {
+        match self.rule {
+            Rule::Plain(claim) => self.claim(claim).left(),
+            Rule::Conditional(condition, consequence) => {
+                let condition = self.claim(condition);
+                let consequence = self.claim(consequence);
+                if condition.is_sure() {
+                    consequence.left()
+                } else {
+                    Narrowed {
+                        station: consequence.claim.station,
+                        channels: consequence.channels(),
+                    }
                 }
             }
         }
     }
 }
 
-// What rule `rule` leaves of the channels of the station that it narrows; nothing where the sheet has no such rule.
-pub fn left(sheet: &Sheet, domains: &Domains, rule: usize) -> Option<Narrowed>
-    ensures value { result ≡ left_on (content sheet.now) domains.now rule }
-    ensures within { IfSome result (Within (vec_len sheet.now.stations) domains.now) }
+// The verdict on rule `rule`; nothing where the sheet has no such rule.
+#[tactic(auto, using(crate::proofs::Sheets::sheet_verdict_laws, crate::proofs::Sheets::verdict_means))]
+pub fn verdict(judge: Judge<'_>, rule: usize) -> Option<Verdict>
+    ensures value { result ≡ verdict_on (content judge.entry.sheet.now) judge.entry.domains.now rule }
+    ensures means { MeansOn (content judge.entry.sheet.now) judge.entry.domains.now rule result }
+    ensures laws { VerdictLaws (content judge.entry.sheet.now) }
 {
-    if rule < sheet.rules.len() {
-        Some(rule_left(sheet, domains, rule_at(sheet, rule)))
-    } else {
-        None
-    }
+    Some(JudgedRule::find(judge, rule)?.verdict())
+}
+
+// What rule `rule` leaves of the channels of the station that it narrows; nothing where the sheet has no such rule.
+pub fn left(judge: Judge<'_>, rule: usize) -> Option<Narrowed>
+    ensures value { result ≡ left_on (content judge.entry.sheet.now) judge.entry.domains.now rule }
+    ensures within { IfSome result (Within (vec_len judge.entry.sheet.now.stations) judge.entry.domains.now) }
+{
+    Some(JudgedRule::find(judge, rule)?.left())
 }

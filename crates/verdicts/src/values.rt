@@ -1,4 +1,5 @@
 // What the judging of a rule answers.
+use std::fmt;
 
 // What given channels say of a rule: it is sure to hold, it cannot hold, or neither is known.
 #[derive(Clone, Copy, Debug, PartialEq, Eq)]
@@ -13,4 +14,14 @@ pub enum Verdict {
 pub struct Narrowed {
     pub station: u8,
     pub channels: u64,
+}
+
+impl fmt::Display for Verdict {
+    fn fmt<W: fmt::Write>(&self, f: &mut fmt::Formatter<W>) -> fmt::Result {
+        f.write_str(match self {
+            Verdict::Sure => "sure",
+            Verdict::Open => "open",
+            Verdict::Broken => "broken",
+        })
+    }
 }
