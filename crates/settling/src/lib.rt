@@ -1,11 +1,11 @@
 // Settling: the rules narrow the channels until no rule narrows them further.
 #![tactic(auto)]
 
-ghost use Rattle.std.specs.Prelude.{◌<◌, T, IfSome, vec_len};
+ghost use Rattle.std.specs.Prelude.{◌<◌, IfSome, IsTrue, vec_len};
 ghost use Rattle.masks.specs.Tables.{Inside, Store};
 ghost use Rattle.settling.specs.Store.{Narrows};
 
-use judging::Domains;
+use judging::{Domains, Judge};
 use sheet::Sheet;
 use verdicts::left;
 
@@ -14,11 +14,15 @@ fn narrow(sheet: &Sheet, mut domains: Domains, rule: usize) -> Option<Domains>
     requires { rule < vec_len sheet.now.rules }
     ensures { IfSome result (Narrows (vec_len sheet.now.stations) domains) }
 {
-    let narrowed = left(sheet, &domains, rule).unwrap();
+    let judge = Judge {
+        sheet,
+        domains: &domains,
+    };
+    let narrowed = left(judge, rule).unwrap();
     if narrowed.channels == 0 {
         return None;
     }
-    domains[narrowed.station as usize] = narrowed.channels;
+    domains[usize::from(narrowed.station)] = narrowed.channels;
     Some(domains)
 }
 
@@ -35,14 +39,9 @@ fn pass(sheet: &Sheet, domains: Domains) -> Option<Domains>
 
 // Whether each station of the sheet has a channel.
 fn filled(sheet: &Sheet, domains: &Domains) -> bool
-    ensures { T result → Store (vec_len sheet.now.stations) domains.now }
+    ensures { IsTrue result → Store (vec_len sheet.now.stations) domains.now }
 {
-    for s in 0..sheet.stations.len() {
-        if domains[s] == 0 {
-            return false;
-        }
-    }
-    true
+    domains[..sheet.stations.len()].iter().all(|set| *set != 0)
 }
 
 // The channels that are left when no rule narrows them any more; nothing where a station has none left.

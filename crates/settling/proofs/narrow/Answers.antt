@@ -1,9 +1,12 @@
-use Rattle.std.proofs.Common.{arith, rules}
+use Rattle.std.proofs.Common.{ℕ, sym, subst, arith, rules}
+use Rattle.masks.specs.Sets.{Subset}
+use Rattle.masks.specs.Tables.{at}
 use Rattle.settling.proofs.Store.{narrows_one}
 use Rattle.settling.proofs.narrow.Goals as goal
 use Rattle.verdicts.specs.Rules.{Within}
 
 pub returns : goal.returns
 returns c =
-    let w : Within c.args.sheet.now.stations.len c.args.domains c.unwrap-narrowed.result = search rules in
-    narrows_one _ _ _ _ (search rules) w.subset (record { some = omega arith; below = search rules })
+    let r = c.unwrap-narrowed.result in
+    let w : Within c.args.sheet.now.stations.len c.args.domains r = search rules in
+    narrows_one _ _ _ _ (search rules) (subst (λ (s : ℕ). Subset r.channels (at c.args.domains s)) (sym c.from.ensures) w.subset) (record { some = omega arith; below = search rules })

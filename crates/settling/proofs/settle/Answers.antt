@@ -1,4 +1,4 @@
-use Rattle.std.proofs.Common.{sym}
+use Rattle.std.proofs.Common.{sym, refl}
 use Rattle.std.proofs.lemmas.Slice.Eq.{slice_eq-Decides}
 use Rattle.std.proofs.lemmas.Bool.{both_ways}
 use Rattle.masks.proofs.Tables.{inside_self, inside_through}
@@ -7,7 +7,7 @@ use Rattle.settling.proofs.settle.Goals as goal
 use Rattle.std.proofs.lemmas.Bool.Decides.{Decides-eqb}
 
 pub loop-after-init : goal.loop-after-init
-loop-after-init c = (inside_self _, c.if-not-filled.ensures tt)
+loop-after-init c = (inside_self _, c.if-not-filled.ensures refl)
 
 pub returns-then-eq : goal.returns-then-eq
 returns-then-eq c =
