@@ -1,19 +1,18 @@
 // The report on a sheet of bytes: its counts, what its rules leave of its channels, and its first plan, or why it is refused.
 #![tactic(auto)]
 
-ghost use Rattle.std.specs.Prelude.{◌≡◌, ℕ, take, slice_index};
+ghost use Rattle.std.specs.Prelude.{◌≡◌, take};
 
-mod lines;
+mod spaced;
 
-use faults::SheetFault;
-use judging::Domains;
-use lines::{Counts, PlanLine, Refusal, RuleLine, StationLine};
-use reading::read;
+use judging::{Domains, Judge, sheet_channels};
+use reading::{Room, read_in};
 use search::first_plan;
 use settling::settle;
-use sheet::{MOST_STATIONS, Sheet};
+use sheet::Sheet;
+use spaced::Spaced;
 use std::alloc::{AllocError, Global};
-use std::fmt::Display;
+use std::fmt::Write;
 use verdicts::verdict;
 
 // How many bytes of the input count.
@@ -23,93 +22,73 @@ pub const LIMIT: usize = 4096;
 fn first_bytes(bytes: &[u8]) -> &[u8]
     ensures { result.now ≡ take 4096 bytes.now }
 {
-    if bytes.len() > LIMIT {
-        &bytes[0..LIMIT]
-    } else {
-        bytes
-    }
+    &bytes[..LIMIT.min(bytes.len())]
 }
 
-// A line more.
-fn push_line<D: Display + Drop>(text: &mut String, line: D) -> Result<(), AllocError> {
-    match text.writeln(line) {
-        Ok(()) => Ok(()),
-        Err(_) => Err(AllocError),
-    }
-}
-
-// The sheet's channels, with none above its stations.
-fn channels(sheet: &Sheet) -> Domains
-    ensures { (s : ℕ) → slice_index result s ≡ slice_index sheet.now.stations.items s }
-{
-    let mut domains = [0; MOST_STATIONS];
-    for s in 0..sheet.stations.len() {
-        domains[s] = sheet.stations[s];
-    }
-    domains
-}
-
-fn push_stations(text: &mut String, sheet: &Sheet, settled: &Domains) -> Result<(), AllocError> {
-    for station in 0..sheet.stations.len() {
-        push_line(
-            text,
-            StationLine {
-                station,
-                channels: settled[station],
-            },
-        )?;
+// `station 0: 2 3`, a line a station.
+fn push_stations(text: &mut String, settled: &[u64]) -> Result<(), AllocError> {
+    for (station, channels) in settled.iter().enumerate() {
+        writeln!(text, "station {station}:{}", Spaced(*channels))?;
     }
     Ok(())
 }
 
-fn push_rules(text: &mut String, sheet: &Sheet, settled: &Domains) -> Result<(), AllocError> {
-    for rule in 0..sheet.rules.len() {
-        if let Some(verdict) = verdict(sheet, settled, rule) {
-            push_line(text, RuleLine { rule, verdict })?;
+// `rule 0 open`, a line a rule.
+fn push_rules(text: &mut String, judge: Judge<'_>) -> Result<(), AllocError> {
+    for rule in 0..judge.sheet.rules.len() {
+        if let Some(verdict) = verdict(judge, rule) {
+            writeln!(text, "rule {rule} {verdict}")?;
         }
     }
     Ok(())
 }
 
+// `plan 2 0`: a channel a station.
+fn push_plan(text: &mut String, plan: &[u64]) -> Result<(), AllocError> {
+    write!(text, "plan")?;
+    for channels in plan {
+        write!(text, "{}", Spaced(*channels))?;
+    }
+    writeln!(text)
+}
+
 // The lines of a sheet that settles.
 fn push_settled(text: &mut String, sheet: &Sheet, settled: Domains) -> Result<(), AllocError> {
-    push_stations(text, sheet, &settled)?;
-    push_rules(text, sheet, &settled)?;
     let stations = sheet.stations.len();
+    push_stations(text, &settled[..stations])?;
+    let judge = Judge {
+        sheet,
+        domains: &settled,
+    };
+    push_rules(text, judge)?;
     match first_plan(sheet, settled) {
-        Some(plan) => push_line(text, PlanLine { stations, plan }),
-        None => push_line(text, "no plan"),
+        Some(plan) => push_plan(text, &plan[..stations]),
+        None => writeln!(text, "no plan"),
     }
 }
 
-fn sheet_report(heap: Global, sheet: &Sheet) -> Result<String, AllocError> {
-    let mut text = String::new(heap);
-    push_line(
-        &mut text,
-        Counts {
-            stations: sheet.stations.len(),
-            nodes: sheet.nodes.len(),
-            rules: sheet.rules.len(),
-        },
+// `stations 2 nodes 4 rules 1`, and what the sheet settles to.
+fn push_sheet(text: &mut String, sheet: &Sheet) -> Result<(), AllocError> {
+    writeln!(
+        text,
+        "stations {} nodes {} rules {}",
+        sheet.stations.len(),
+        sheet.nodes.len(),
+        sheet.rules.len()
     )?;
-    match settle(sheet, channels(sheet)) {
-        Some(settled) => push_settled(&mut text, sheet, settled)?,
-        None => push_line(&mut text, "none")?,
+    match settle(sheet, sheet_channels(sheet)) {
+        Some(settled) => push_settled(text, sheet, settled),
+        None => writeln!(text, "none"),
     }
-    Ok(text)
-}
-
-fn refusal(heap: Global, fault: SheetFault) -> Result<String, AllocError> {
-    let mut text = String::new(heap);
-    push_line(&mut text, Refusal(fault.told()))?;
-    Ok(text)
 }
 
 // The report on the first bytes of an input.
 pub fn report(heap: Global, bytes: &[u8]) -> Result<String, AllocError> {
-    match read(heap, first_bytes(bytes)) {
-        Ok(sheet) => sheet_report(heap, &sheet),
-        Err(SheetFault::Memory) => Err(AllocError),
-        Err(fault) => refusal(heap, fault),
+    let room = Room::new(heap)?;
+    let mut text = String::new(heap);
+    match read_in(room, first_bytes(bytes)) {
+        Ok(sheet) => push_sheet(&mut text, &sheet)?,
+        Err(fault) => writeln!(text, "refused {fault}")?,
     }
+    Ok(text)
 }

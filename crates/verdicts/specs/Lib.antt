@@ -3,3 +3,4 @@ pub mod JudgedRules
 pub mod Laws
 pub mod Placed
 pub mod Rules
+pub mod Text

@@ -1,4 +1,7 @@
 // What the judging of a rule answers.
+ghost use Rattle.std.specs.Prelude.{Some};
+ghost use Rattle.verdicts.specs.Text.{verdict_text};
+
 use std::fmt;
 
 // What given channels say of a rule: it is sure to hold, it cannot hold, or neither is known.
@@ -17,6 +20,8 @@ pub struct Narrowed {
 }
 
 impl fmt::Display for Verdict {
+    ghost output = { λ verdict. Some (verdict_text verdict) };
+
     fn fmt<W: fmt::Write>(&self, f: &mut fmt::Formatter<W>) -> fmt::Result {
         f.write_str(match self {
             Verdict::Sure => "sure",
