@@ -9,9 +9,17 @@ ghost use Rattle.sheet.specs.Content.{content};
 
 use crate::node::JudgedNode;
 use crate::sets::passing;
-use crate::values::{Ends, Judge};
+use crate::values::{Domains, Ends, Judge};
 
 impl<'a> Judge<'a> {
+    // The same sheet, judged on other channels.
+    pub fn on(self, domains: &'a Domains) -> Judge<'a>
+        ensures sheet { result.sheet.now ≡ self.entry.sheet.now }
+        ensures domains { result.domains.now ≡ domains.now }
+    {
+        Judge { domains, ..self }
+    }
+
     // Node `number`, if the sheet has it.
     fn node(self, number: u8) -> Option<JudgedNode<'a>>
         ensures { Finds (nat_lt number (vec_len self.entry.sheet.now.nodes)) self.entry number result }

@@ -1,6 +1,6 @@
 // Terms, ranges and what rules leave, judged one by one: station 0 is on 1 and 3, station 1 on 4 alone.
-use crate::sheets::{channels_of, sheet_of};
-use judging::{Ends, certain, ends, possible};
+use crate::sheets::{Number, Term, are_in_ranges, have_ends, sheet_of};
+use judging::{Judge, sheet_channels};
 use sheet_tests::Row;
 use sheet_tests::Row::{Nd, Ru, St};
 use std::test::Fail;
@@ -37,8 +37,7 @@ static ROWS: [Row; 22] = [
     Ru(1, 0, 16, 1, 7),
 ];
 
-// A term's node, its least and its greatest.
-static TERMS: [(u8, i64, i64); 5] = [
+static TERMS: [Term; 5] = [
     (0, -7, -7),
     // -7 is -4 times 2 and 1 over
     (1, -4, -4),
@@ -50,19 +49,18 @@ static TERMS: [(u8, i64, i64); 5] = [
 #[test]
 fn ends_of_terms(rt: HostRuntime) -> Result<(), Fail> {
     let sheet = sheet_of(rt.alloc(), &ROWS)?;
-    let domains = channels_of(&sheet);
-    for (node, least, greatest) in TERMS {
-        let wanted = Some(Ends { least, greatest });
-        assert_eq!(rt; ends(&sheet, &domains, node), wanted, "node {node}");
-    }
+    let judge = Judge {
+        sheet: &sheet,
+        domains: &sheet_channels(&sheet),
+    };
+    have_ends(&rt, judge, &TERMS);
     // a range, and a node that is not there
-    assert_eq!(rt; ends(&sheet, &domains, 7), None);
-    assert_eq!(rt; ends(&sheet, &domains, 17), None);
+    assert_eq!(rt; judge.ends(7), None);
+    assert_eq!(rt; judge.ends(17), None);
     Ok(())
 }
 
-// A range's node, a number, whether it is possible there, and whether it is certain.
-static RANGES: [(u8, i32, bool, bool); 27] = [
+static RANGES: [Number; 27] = [
     (7, 0, true, true),
     (7, 6, false, false),
     (8, -1, true, true),
@@ -99,43 +97,38 @@ static RANGES: [(u8, i32, bool, bool); 27] = [
 #[test]
 fn numbers_in_ranges(rt: HostRuntime) -> Result<(), Fail> {
     let sheet = sheet_of(rt.alloc(), &ROWS)?;
-    let domains = channels_of(&sheet);
-    for (node, v, may, must) in RANGES {
-        assert_eq!(rt;
-            possible(&sheet, &domains, node, v),
-            Some(may),
-            "{v} in {node}"
-        );
-        assert_eq!(rt;
-            certain(&sheet, &domains, node, v),
-            Some(must),
-            "{v} in {node}"
-        );
-    }
+    let judge = Judge {
+        sheet: &sheet,
+        domains: &sheet_channels(&sheet),
+    };
+    are_in_ranges(&rt, judge, &RANGES);
     // a term, and a node that is not there
-    assert_eq!(rt; possible(&sheet, &domains, 0, 0), None);
-    assert_eq!(rt; certain(&sheet, &domains, 17, 0), None);
+    assert_eq!(rt; judge.possible(0, 0), None);
+    assert_eq!(rt; judge.certain(17, 0), None);
     Ok(())
 }
 
 #[test]
 fn what_rules_leave(rt: HostRuntime) -> Result<(), Fail> {
     let sheet = sheet_of(rt.alloc(), &ROWS)?;
-    let domains = channels_of(&sheet);
+    let judge = Judge {
+        sheet: &sheet,
+        domains: &sheet_channels(&sheet),
+    };
     // of 1 and 3 only 3 is from 3 upwards: the set 8
     let only_three = Some(Narrowed {
         station: 0,
         channels: 8,
     });
-    assert_eq!(rt; left(&sheet, &domains, 0), only_three);
+    assert_eq!(rt; left(judge, 0), only_three);
     // a sure condition narrows
-    assert_eq!(rt; left(&sheet, &domains, 1), only_three);
+    assert_eq!(rt; left(judge, 1), only_three);
     // an open one leaves its consequence's station as it is
     let as_it_was = Some(Narrowed {
         station: 1,
         channels: 16,
     });
-    assert_eq!(rt; left(&sheet, &domains, 2), as_it_was);
-    assert_eq!(rt; left(&sheet, &domains, 3), None);
+    assert_eq!(rt; left(judge, 2), as_it_was);
+    assert_eq!(rt; left(judge, 3), None);
     Ok(())
 }

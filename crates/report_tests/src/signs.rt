@@ -1,6 +1,6 @@
 // Negative terms, and ranges that reach beyond the channels: station 0 is on 1 and 3, station 1 on 0 and 63.
-use crate::sheets::{channels_of, sheet_of};
-use judging::{Ends, certain, certain_among, ends, possible, possible_among};
+use crate::sheets::{Number, Term, are_in_ranges, have_ends, sheet_of};
+use judging::{Judge, sheet_channels};
 use sheet_tests::Row;
 use sheet_tests::Row::{Nd, St};
 use std::test::Fail;
@@ -49,8 +49,7 @@ static ROWS: [Row; 33] = [
     Nd(20, 17, 18, 0),
 ];
 
-// A term's node, its least and its greatest.
-static TERMS: [(u8, i64, i64); 13] = [
+static TERMS: [Term; 13] = [
     (1, -6, -2),
     // -6 over 4 is below -1, and -2 over 4 is below 0
     (2, -2, -1),
@@ -71,16 +70,15 @@ static TERMS: [(u8, i64, i64); 13] = [
 #[test]
 fn ends_of_negative_terms(rt: HostRuntime) -> Result<(), Fail> {
     let sheet = sheet_of(rt.alloc(), &ROWS)?;
-    let domains = channels_of(&sheet);
-    for (node, least, greatest) in TERMS {
-        let wanted = Some(Ends { least, greatest });
-        assert_eq!(rt; ends(&sheet, &domains, node), wanted, "node {node}");
-    }
+    let judge = Judge {
+        sheet: &sheet,
+        domains: &sheet_channels(&sheet),
+    };
+    have_ends(&rt, judge, &TERMS);
     Ok(())
 }
 
-// A range's node, a number, whether it is possible there, and whether it is certain.
-static RANGES: [(u8, i32, bool, bool); 30] = [
+static RANGES: [Number; 30] = [
     (17, -1, false, false),
     (17, 0, true, true),
     (17, 63, true, true),
@@ -120,19 +118,11 @@ static RANGES: [(u8, i32, bool, bool); 30] = [
 #[test]
 fn numbers_beyond_the_channels(rt: HostRuntime) -> Result<(), Fail> {
     let sheet = sheet_of(rt.alloc(), &ROWS)?;
-    let domains = channels_of(&sheet);
-    for (node, v, may, must) in RANGES {
-        assert_eq!(rt;
-            possible(&sheet, &domains, node, v),
-            Some(may),
-            "{v} in {node}"
-        );
-        assert_eq!(rt;
-            certain(&sheet, &domains, node, v),
-            Some(must),
-            "{v} in {node}"
-        );
-    }
+    let judge = Judge {
+        sheet: &sheet,
+        domains: &sheet_channels(&sheet),
+    };
+    are_in_ranges(&rt, judge, &RANGES);
     Ok(())
 }
 
@@ -161,21 +151,16 @@ static SETS: [(u8, u64, u64, u64); 6] = [
 #[test]
 fn channels_in_ranges(rt: HostRuntime) -> Result<(), Fail> {
     let sheet = sheet_of(rt.alloc(), &ROWS)?;
-    let domains = channels_of(&sheet);
+    let judge = Judge {
+        sheet: &sheet,
+        domains: &sheet_channels(&sheet),
+    };
     for (node, set, may, must) in SETS {
-        assert_eq!(rt;
-            possible_among(&sheet, &domains, node, set),
-            Some(may),
-            "node {node}"
-        );
-        assert_eq!(rt;
-            certain_among(&sheet, &domains, node, set),
-            Some(must),
-            "node {node}"
-        );
+        assert_eq!(rt; judge.possible_among(node, set), Some(may), "node {node}");
+        assert_eq!(rt; judge.certain_among(node, set), Some(must), "node {node}");
     }
     // a term, and a node that is not there
-    assert_eq!(rt; possible_among(&sheet, &domains, 0, 15), None);
-    assert_eq!(rt; certain_among(&sheet, &domains, 31, 15), None);
+    assert_eq!(rt; judge.possible_among(0, 15), None);
+    assert_eq!(rt; judge.certain_among(31, 15), None);
     Ok(())
 }

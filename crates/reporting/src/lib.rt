@@ -5,7 +5,7 @@ ghost use Rattle.std.specs.Prelude.{◌≡◌, take};
 
 mod spaced;
 
-use judging::{Domains, Judge, sheet_channels};
+use judging::{Judge, sheet_channels};
 use reading::{Room, read_in};
 use search::first_plan;
 use settling::settle;
@@ -53,15 +53,12 @@ fn push_plan(text: &mut String, plan: &[u64]) -> Result<(), AllocError> {
 }
 
 // The lines of a sheet that settles.
-fn push_settled(text: &mut String, sheet: &Sheet, settled: Domains) -> Result<(), AllocError> {
+fn push_settled(text: &mut String, judge: Judge<'_>) -> Result<(), AllocError> {
+    let Judge { sheet, domains } = judge;
     let stations = sheet.stations.len();
-    push_stations(text, &settled[..stations])?;
-    let judge = Judge {
-        sheet,
-        domains: &settled,
-    };
+    push_stations(text, &domains[..stations])?;
     push_rules(text, judge)?;
-    match first_plan(sheet, settled) {
+    match first_plan(judge) {
         Some(plan) => push_plan(text, &plan[..stations]),
         None => writeln!(text, "no plan"),
     }
@@ -76,8 +73,13 @@ fn push_sheet(text: &mut String, sheet: &Sheet) -> Result<(), AllocError> {
         sheet.nodes.len(),
         sheet.rules.len()
     )?;
-    match settle(sheet, sheet_channels(sheet)) {
-        Some(settled) => push_settled(text, sheet, settled),
+    let domains = sheet_channels(sheet);
+    let judge = Judge {
+        sheet,
+        domains: &domains,
+    };
+    match settle(judge) {
+        Some(settled) => push_settled(text, judge.on(&settled)),
         None => writeln!(text, "none"),
     }
 }

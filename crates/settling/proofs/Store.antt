@@ -1,6 +1,7 @@
 -- Narrowing one station, narrowing again and again, and that a smaller store has a smaller sum.
 use Rattle.std.proofs.Common.{◌≡◌, ℕ, suc, ◌<◌, ◌≤◌, List, [], ◌∷◌, length, get_or, set, sym, refl, ◌∙◌, subst, ap₂, ⊎_elim, arith, length-set, get_or-set_other, get_or-set_same}
-use Rattle.std.proofs.lemmas.Bool.{cases_eq}
+use Rattle.std.proofs.Math.Seq.{set_out}
+use Rattle.std.proofs.lemmas.Bool.{cases_eq, cases_lt}
 use Rattle.masks.proofs.Sets.{subset_le}
 use Rattle.masks.proofs.Tables.{inside_self, inside_through}
 use Rattle.masks.specs.Sets.{Subset, SomeChannels}
@@ -13,17 +14,20 @@ by_place P D s w h p q t =
     ⊎_elim (λ e. subst (λ (u : ℕ). P u (get_or (set D s w) u 0)) (sym e) (subst (P s) (sym (get_or-set_same D s w 0 h)) p))
     (λ ne. subst (P t) (sym (get_or-set_other D s t w 0 ne)) (q t)) (cases_eq t s)
 
--- one station's set becomes a part of what it was, and not empty
-pub narrows_one : (n : ℕ) (D : List ℕ) (s w : ℕ) → s < length D → Subset w (at D s) → SomeChannels w → Narrows n D (set D s w)
-narrows_one n D s w h part some =
-    record {
+pub narrows_self : (n : ℕ) (D : List ℕ) → Narrows n D D
+narrows_self n D = record { long = refl; inside = inside_self D; filled = λ f. f }
+
+-- one station's set becomes a part of what it was, and not empty; a table without that station stays as it is
+pub narrows_one : (n : ℕ) (D : List ℕ) (s w : ℕ) → Subset w (at D s) → SomeChannels w → Narrows n D (set D s w)
+narrows_one n D s w part some =
+    ⊎_elim
+    (λ h. record {
       long = length-set D s w;
       inside = by_place (λ (t x : ℕ). Subset x (at D t)) D s w h part (inside_self D);
       filled = λ f. by_place (λ (t x : ℕ). t < n → SomeChannels x) D s w h (λ _. some) f;
-    }
-
-pub narrows_self : (n : ℕ) (D : List ℕ) → Narrows n D D
-narrows_self n D = record { long = refl; inside = inside_self D; filled = λ f. f }
+    })
+    (λ out. subst (Narrows n D) (sym (set_out D s w out)) (narrows_self n D))
+    (cases_lt s (length D))
 
 pub narrows_through : (n : ℕ) (C D E : List ℕ) → Narrows n C D → Narrows n D E → Narrows n C E
 narrows_through n C D E p q =

@@ -7,6 +7,6 @@ use Rattle.verdicts.specs.Rules.{Within}
 
 pub returns : goal.returns
 returns c =
-    let r = c.unwrap-narrowed.result in
-    let w : Within c.args.sheet.now.stations.len c.args.domains r = search rules in
-    narrows_one _ _ _ _ (search rules) (subst (λ (s : ℕ). Subset r.channels (at c.args.domains s)) (sym c.from.ensures) w.subset) (record { some = omega arith; below = search rules })
+    let r = c.unwrap-station.result in
+    let w : Within c.args.judge.sheet.now.stations.len c.args.judge.domains.now r = search rules in
+    narrows_one _ _ _ _ (subst (λ (s : ℕ). Subset r.channels (at c.args.judge.domains.now s)) (sym c.from.ensures) w.subset) (record { some = omega arith; below = search rules })

@@ -3,4 +3,4 @@ use Rattle.settling.specs.Store.{Narrows}
 use Rattle.settling.proofs.pass.Given as goal
 
 abbrev pub invariant-loop-rule : goal.invariant-loop-rule
-invariant-loop-rule l = Narrows (vec_len l.sheet.stations) l.initial.after l.after
+invariant-loop-rule l = Narrows (vec_len l.judge.sheet.now.stations) l.judge.domains.now l.domains

@@ -4,7 +4,7 @@ use Rattle.settling.specs.Store.{total}
 use Rattle.settling.proofs.settle.Given as goal
 
 abbrev pub invariant-loop-after : goal.invariant-loop-after
-invariant-loop-after l = Inside l.before l.initial.before × Store (vec_len l.sheet.stations) l.before
+invariant-loop-after l = Inside l.before l.judge.domains.now × Store (vec_len l.judge.sheet.now.stations) l.before
 
 abbrev pub decreases-loop-after : goal.decreases-loop-after
 decreases-loop-after l = total l.before
