@@ -1,5 +1,5 @@
 // Terms, ranges and what rules leave, judged one by one: station 0 is on 1 and 3, station 1 on 4 alone.
-use crate::sheets::{Number, Term, are_in_ranges, have_ends, sheet_of};
+use crate::sheets::{Number, Term, misjudged_number, misjudged_term, sheet_of};
 use judging::{Judge, sheet_channels};
 use sheet_tests::Row;
 use sheet_tests::Row::{Nd, Ru, St};
@@ -53,7 +53,7 @@ fn ends_of_terms(rt: HostRuntime) -> Result<(), Fail> {
         sheet: &sheet,
         domains: &sheet_channels(&sheet),
     };
-    have_ends(&rt, judge, &TERMS);
+    assert_eq!(rt; misjudged_term(judge, &TERMS), None);
     // a range, and a node that is not there
     assert_eq!(rt; judge.ends(7), None);
     assert_eq!(rt; judge.ends(17), None);
@@ -101,7 +101,7 @@ fn numbers_in_ranges(rt: HostRuntime) -> Result<(), Fail> {
         sheet: &sheet,
         domains: &sheet_channels(&sheet),
     };
-    are_in_ranges(&rt, judge, &RANGES);
+    assert_eq!(rt; misjudged_number(judge, &RANGES), None);
     // a term, and a node that is not there
     assert_eq!(rt; judge.possible(0, 0), None);
     assert_eq!(rt; judge.certain(17, 0), None);

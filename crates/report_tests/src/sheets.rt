@@ -1,10 +1,9 @@
-// A sheet that a test judges, and what is asked of its terms and ranges.
+// A sheet that a test judges, and what is wanted of its terms and ranges.
 use judging::{Ends, Judge};
 use reading::read;
 use sheet::Sheet;
 use sheet_tests::{Row, bytes_of};
 use std::alloc::Global;
-use std::process::Abort;
 use std::test::Fail;
 
 // A term's node, its least and its greatest.
@@ -18,18 +17,18 @@ pub(crate) fn sheet_of(heap: Global, rows: &[Row]) -> Result<Sheet, Fail> {
     Ok(read(heap, bytes.as_slice())?)
 }
 
-pub(crate) fn have_ends(rt: &impl Abort, judge: Judge<'_>, terms: &[Term]) {
-    for term in terms {
+// The first of some terms whose ends are judged otherwise.
+pub(crate) fn misjudged_term(judge: Judge<'_>, terms: &[Term]) -> Option<Term> {
+    terms.iter().copied().find(|term| {
         let (node, least, greatest) = *term;
-        let wanted = Some(Ends { least, greatest });
-        assert_eq!(rt; judge.ends(node), wanted, "node {node}");
-    }
+        judge.ends(node) != Some(Ends { least, greatest })
+    })
 }
 
-pub(crate) fn are_in_ranges(rt: &impl Abort, judge: Judge<'_>, numbers: &[Number]) {
-    for number in numbers {
+// The first of some numbers that is judged otherwise.
+pub(crate) fn misjudged_number(judge: Judge<'_>, numbers: &[Number]) -> Option<Number> {
+    numbers.iter().copied().find(|number| {
         let (node, v, may, must) = *number;
-        assert_eq!(rt; judge.possible(node, v), Some(may), "{v} in {node}");
-        assert_eq!(rt; judge.certain(node, v), Some(must), "{v} in {node}");
-    }
+        judge.possible(node, v) != Some(may) || judge.certain(node, v) != Some(must)
+    })
 }

@@ -1,5 +1,5 @@
 // Negative terms, and ranges that reach beyond the channels: station 0 is on 1 and 3, station 1 on 0 and 63.
-use crate::sheets::{Number, Term, are_in_ranges, have_ends, sheet_of};
+use crate::sheets::{Number, Term, misjudged_number, misjudged_term, sheet_of};
 use judging::{Judge, sheet_channels};
 use sheet_tests::Row;
 use sheet_tests::Row::{Nd, St};
@@ -74,7 +74,7 @@ fn ends_of_negative_terms(rt: HostRuntime) -> Result<(), Fail> {
         sheet: &sheet,
         domains: &sheet_channels(&sheet),
     };
-    have_ends(&rt, judge, &TERMS);
+    assert_eq!(rt; misjudged_term(judge, &TERMS), None);
     Ok(())
 }
 
@@ -122,7 +122,7 @@ fn numbers_beyond_the_channels(rt: HostRuntime) -> Result<(), Fail> {
         sheet: &sheet,
         domains: &sheet_channels(&sheet),
     };
-    are_in_ranges(&rt, judge, &RANGES);
+    assert_eq!(rt; misjudged_number(judge, &RANGES), None);
     Ok(())
 }
 
