@@ -13,7 +13,7 @@ use Rattle.std.specs.Int.{int_div_euclid, int_rem_euclid}
 use Rattle.judging.specs.Answers.{ends_of}
 use Rattle.judging.specs.Bounds.{bound, Bounded}
 use Rattle.judging.specs.Judged.{same, least, greatest}
-use Rattle.judging.specs.JudgedNodes.{depth_of, term_of as term}
+use Rattle.judging.specs.JudgedNodes.{node_depth, node_term}
 use Rattle.judging.specs.Known.{Known}
 use Rattle.judging.specs.Nodes.{as_term, depth_at, term_of}
 use Rattle.judging.specs.Trees.{Term}
@@ -95,20 +95,20 @@ module _ (n : ℕ) (nodes : List Node) (each : (i : ℕ) → i < length nodes �
       let p = reached (suc i) i (omega arith) h in
       record { low = subst (λ (z : ℤ). nat_abs z ≤ bound (depth_at nodes i)) (sym l) p.low; high = subst (λ (z : ℤ). nat_abs z ≤ bound (depth_at nodes i)) (sym g) p.high }
 
-pub within_bound : (x : JudgedNode) (e : Ends) → e.least ≡ least x.judge.domains.now (term x) → e.greatest ≡ greatest x.judge.domains.now (term x) → Bounded (bound (depth_of x)) e
+pub within_bound : (x : JudgedNode) (e : Ends) → e.least ≡ least x.judge.domains.now (node_term x) → e.greatest ≡ greatest x.judge.domains.now (node_term x) → Bounded (bound (node_depth x)) e
 within_bound x e l g =
     let s = x.judge.sheet.now in
     ends_within _ _ (known _ _ s.few_stations s.nodes_sound) x.judge.domains.now x.number (omega (arith, s.nodes.ok, x.there)) e l g
 
 -- so no node's ends leave the widest limits
-pub within_limits : (x : JudgedNode) (e : Ends) → Bounded (bound (depth_of x)) e → Bounded 268435456000 e
+pub within_limits : (x : JudgedNode) (e : Ends) → Bounded (bound (node_depth x)) e → Bounded 268435456000 e
 within_limits x e p =
     let s = x.judge.sheet.now in
-    let b : bound (depth_of x) ≤ 268435456000 = bounded_depth _ _ s.nodes_sound x.number (omega (arith, s.nodes.ok, x.there)) in
+    let b : bound (node_depth x) ≤ 268435456000 = bounded_depth _ _ s.nodes_sound x.number (omega (arith, s.nodes.ok, x.there)) in
     record { low = omega (arith, p.low); high = omega (arith, p.high) }
 
 -- a node is at most 8 deep
-pub shallow : (x : JudgedNode) → depth_of x ≤ 8
+pub shallow : (x : JudgedNode) → node_depth x ≤ 8
 shallow x =
     let s = x.judge.sheet.now in
     (depths _ _ s.nodes_sound x.number (omega (arith, s.nodes.ok, x.there))).1

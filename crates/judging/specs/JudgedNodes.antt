@@ -14,36 +14,36 @@ abbrev pub nodes_of : Judge → List Node
 nodes_of j = vec_items j.sheet.now.nodes
 
 -- what the node says
-abbrev pub form_of : JudgedNode → Form
-form_of x = (slice_index_or (nodes_of x.judge) x.number missing_node).form
+abbrev pub node_form : JudgedNode → Form
+node_form x = (slice_index_or (nodes_of x.judge) x.number missing_node).form
 
 -- what a sheet promises of the node, if this is what it says
 abbrev pub Promised : JudgedNode → Form → Type 0
 Promised x form = Known (vec_len x.judge.sheet.now.stations) (nodes_of x.judge) x.number form
 
 -- whether the node is a term
-abbrev pub is_term : JudgedNode → Bool
-is_term x = at.term_at (nodes_of x.judge) x.number
+abbrev pub node_is_term : JudgedNode → Bool
+node_is_term x = at.term_at (nodes_of x.judge) x.number
 
 -- how deep the node goes
-abbrev pub depth_of : JudgedNode → ℕ
-depth_of x = at.depth_at (nodes_of x.judge) x.number
+abbrev pub node_depth : JudgedNode → ℕ
+node_depth x = at.depth_at (nodes_of x.judge) x.number
 
 -- the term that the node stands for
-abbrev pub term_of : JudgedNode → Term
-term_of x = at.term_of (nodes_of x.judge) x.number
+abbrev pub node_term : JudgedNode → Term
+node_term x = at.term_of (nodes_of x.judge) x.number
 
 -- the range that the node stands for
-abbrev pub range_of : JudgedNode → Range
-range_of x = at.range_of (nodes_of x.judge) x.number
+abbrev pub node_range : JudgedNode → Range
+node_range x = at.range_of (nodes_of x.judge) x.number
 
 -- the term that the node stands for, if it is a term that says this
-abbrev pub as_term : JudgedNode → Form → Term
-as_term x form = at.as_term (at.term_of (nodes_of x.judge)) form
+abbrev pub term_saying : JudgedNode → Form → Term
+term_saying x form = at.as_term (at.term_of (nodes_of x.judge)) form
 
 -- the range that the node stands for, if it is a range that says this
-abbrev pub as_range : JudgedNode → Form → Range
-as_range x form = at.as_range (at.term_of (nodes_of x.judge)) (at.range_of (nodes_of x.judge)) form
+abbrev pub range_saying : JudgedNode → Form → Range
+range_saying x form = at.as_range (at.term_of (nodes_of x.judge)) (at.range_of (nodes_of x.judge)) form
 
 -- the answer is node i of a judged sheet where there is one as wanted, and else nothing
 abbrev pub Finds : Bool → Judge → ℕ → Option JudgedNode → Type 0

@@ -1,6 +1,6 @@
 // What a node of a judged sheet says, and the nodes that it names.
 ghost use Rattle.std.specs.Prelude.{◌≡◌, ◌<◌};
-ghost use Rattle.judging.specs.JudgedNodes.{as_range, as_term, form_of, is_term, Promised, range_of, term_of};
+ghost use Rattle.judging.specs.JudgedNodes.{range_saying, term_saying, node_form, node_is_term, Promised, node_range, node_term};
 
 use crate::node::JudgedNode;
 use sheet::Form;
@@ -8,17 +8,17 @@ use sheet::Form;
 impl<'a> JudgedNode<'a> {
     // What the node says.
     pub(crate) fn form(self) -> Form
-        ensures value { result ≡ form_of self.entry }
+        ensures value { result ≡ node_form self.entry }
         ensures promised { Promised self.entry result }
-        ensures term { term_of self.entry ≡ as_term self.entry result }
-        ensures range { range_of self.entry ≡ as_range self.entry result }
+        ensures term { node_term self.entry ≡ term_saying self.entry result }
+        ensures range { node_range self.entry ≡ range_saying self.entry result }
     {
         self.judge.sheet.nodes[self.number].form
     }
 
     // Whether the node is a term; the others are ranges.
     pub(crate) fn is_term(self) -> bool
-        ensures { result ≡ is_term self.entry }
+        ensures { result ≡ node_is_term self.entry }
     {
         self.form().is_term()
     }

@@ -1,7 +1,7 @@
 // Which whole numbers are possible in a range, and which are certain, over the channels that are left.
 ghost use Rattle.std.specs.Prelude.{◌≡◌, ◌+◌, ◌*◌, ◌^◌, ◌≤◌, false, unsigned_abs};
 ghost use Rattle.judging.specs.Judged as judged;
-ghost use Rattle.judging.specs.JudgedNodes.{depth_of, is_term, range_of};
+ghost use Rattle.judging.specs.JudgedNodes.{node_depth, node_is_term, node_range};
 
 use crate::node::JudgedNode;
 use masks::{has, only};
@@ -11,9 +11,9 @@ impl JudgedNode<'_> {
     // Whether v is possible in the node, which is a range.
     #[cycle(possible_and_certain)]
     pub(crate) fn possible(self, v: i64) -> bool
-        requires sort { is_term self ≡ false }
-        requires near { unsigned_abs v + depth_of self * 268435456000 ≤ 2 ^ 62 }
-        ensures { result ≡ judged.possible self.entry.judge.domains.now (range_of self.entry) v }
+        requires sort { node_is_term self ≡ false }
+        requires near { unsigned_abs v + node_depth self * 268435456000 ≤ 2 ^ 62 }
+        ensures { result ≡ judged.possible self.entry.judge.domains.now (node_range self.entry) v }
     {
         match self.form() {
             Form::Between(a, b) => {
@@ -36,9 +36,9 @@ impl JudgedNode<'_> {
     // Whether v is certain in the node, which is a range.
     #[cycle(possible_and_certain)]
     pub(crate) fn certain(self, v: i64) -> bool
-        requires sort { is_term self ≡ false }
-        requires near { unsigned_abs v + depth_of self * 268435456000 ≤ 2 ^ 62 }
-        ensures { result ≡ judged.certain self.entry.judge.domains.now (range_of self.entry) v }
+        requires sort { node_is_term self ≡ false }
+        requires near { unsigned_abs v + node_depth self * 268435456000 ≤ 2 ^ 62 }
+        ensures { result ≡ judged.certain self.entry.judge.domains.now (node_range self.entry) v }
     {
         match self.form() {
             Form::Between(a, b) => {

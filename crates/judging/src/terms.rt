@@ -2,7 +2,7 @@
 ghost use Rattle.std.specs.Prelude.{◌≡◌, true};
 ghost use Rattle.judging.specs.Bounds.{bound, Bounded};
 ghost use Rattle.judging.specs.Judged as judged;
-ghost use Rattle.judging.specs.JudgedNodes.{depth_of, is_term, term_of};
+ghost use Rattle.judging.specs.JudgedNodes.{node_depth, node_is_term, node_term};
 
 use crate::node::JudgedNode;
 use crate::values::Ends;
@@ -11,10 +11,10 @@ use sheet::Form;
 impl JudgedNode<'_> {
     // The ends of the node, which is a term.
     pub(crate) fn ends(self) -> Ends
-        requires { is_term self ≡ true }
-        ensures least { result.least ≡ judged.least self.entry.judge.domains.now (term_of self.entry) }
-        ensures greatest { result.greatest ≡ judged.greatest self.entry.judge.domains.now (term_of self.entry) }
-        ensures within { Bounded (bound (depth_of self.entry)) result }
+        requires { node_is_term self ≡ true }
+        ensures least { result.least ≡ judged.least self.entry.judge.domains.now (node_term self.entry) }
+        ensures greatest { result.greatest ≡ judged.greatest self.entry.judge.domains.now (node_term self.entry) }
+        ensures within { Bounded (bound (node_depth self.entry)) result }
     {
         match self.form() {
             Form::Number(k) => Ends::of_number(i64::from(k)),

@@ -2,7 +2,7 @@ use Rattle.std.proofs.Common.{◌≡◌, ◌<◌, length, sym, subst, arith, rul
 use borrow.Author.Rules.{get_or_read}
 use Rattle.sheet.specs.Sound.{missing_node}
 use Rattle.sheet.specs.declared.form.Node.{Node}
-use Rattle.judging.specs.JudgedNodes.{Promised, term_of, range_of, as_term, as_range}
+use Rattle.judging.specs.JudgedNodes.{Promised, node_term, node_range, term_saying, range_saying}
 use Rattle.judging.proofs.Nodes.{known}
 use Rattle.judging.proofs.Trees.{term_step, range_step}
 use Rattle.judging.proofs.node.JudgedNode.form.Goals as goal
@@ -18,6 +18,6 @@ returns c =
     record {
       value = search rules;
       promised = subst (λ (y : Node). Promised x y.form) e (k x.number h);
-      term = subst (λ (y : Node). term_of x ≡ as_term x y.form) e (term_step s.stations.len nodes k x.number h);
-      range = subst (λ (y : Node). range_of x ≡ as_range x y.form) e (range_step s.stations.len nodes k x.number h);
+      term = subst (λ (y : Node). node_term x ≡ term_saying x y.form) e (term_step s.stations.len nodes k x.number h);
+      range = subst (λ (y : Node). node_range x ≡ range_saying x y.form) e (range_step s.stations.len nodes k x.number h);
     }
