@@ -218,7 +218,10 @@ impl fmt::Display for SheetFault {
     ghost output = { λ fault. Some (told_text (told_sheet fault)) };
 
     fn fmt<W: fmt::Write>(&self, f: &mut fmt::Formatter<W>) -> fmt::Result {
-        write!(f, "{}", self.told())
+        match self {
+            SheetFault::Bytes(below) => write!(f, "{below}"),
+            fault => write!(f, "{}", fault.told()),
+        }
     }
 }
 
@@ -226,7 +229,10 @@ impl fmt::Display for PlanFault {
     ghost output = { λ fault. Some (told_text (told_plan fault)) };
 
     fn fmt<W: fmt::Write>(&self, f: &mut fmt::Formatter<W>) -> fmt::Result {
-        write!(f, "{}", self.told())
+        match self {
+            PlanFault::Sheet(below) => write!(f, "{below}"),
+            fault => write!(f, "{}", fault.told()),
+        }
     }
 }
 

@@ -1,5 +1,4 @@
 pub mod Among
-pub mod Answered
 pub mod Bounds
 pub mod Ints
 pub mod Laws

@@ -1,7 +1,8 @@
 -- Bytes put one behind another.
-use Rattle.std.proofs.Common.{◌≡◌, ℕ, ◌+◌, ◌-◌, ◌<◌, ◌≤◌, List, [], ◌∷◌, ◌++◌, length, get_or, take, drop, sym, refl, ap, ◌∙◌, arith}
-use Rattle.std.proofs.lemmas.List.{take_rest, take_at, drop_at, drop_all, length-drop, length-append, append_assoc, append-nil, drop-drop, take_more, take-append-drop}
+use Rattle.std.proofs.Common.{◌≡◌, ℕ, ◌+◌, ◌-◌, ◌<◌, ◌≤◌, List, [], ◌∷◌, ◌++◌, length, get_or, take, drop, sym, refl, ap, ◌∙◌, subst, arith}
+use Rattle.std.proofs.lemmas.List.{take_rest, take_at, drop_at, drop_all, length-drop, length-append, append_assoc, append-nil, drop-drop, take_more}
 use Rattle.std.specs.List.{flat_map}
+use Rattle.std.proofs.lemmas.List.Folds.{length-flat_map-take}
 use Rattle.std.proofs.lemmas.Grind.{common_steps, flat_map-append}
 use borrow.Rule.Slice.PartMut.{put_mid}
 
@@ -21,16 +22,7 @@ module _ {X : Type 0} (f : X → List ℕ) where
 
     -- there is room for one more while there is for all
     pub joined_room : length (flat_map f (take i xs)) + length (f x) ≤ length (flat_map f xs)
-    joined_room =
-        let all : flat_map f (take (i + 1) xs ++ drop (i + 1) xs) ≡ flat_map f xs = ap (flat_map f) (take-append-drop (i + 1) xs) in
-        let split = flat_map-append f (take (i + 1) xs) (drop (i + 1) xs) in
-        omega (
-          arith,
-          ap length all,
-          ap length split,
-          length-joined_take,
-          length-append (flat_map f (take (i + 1) xs)) (flat_map f (drop (i + 1) xs)),
-        )
+    joined_room = subst (λ y. length (flat_map f (take i xs)) + length (f y) ≤ length (flat_map f xs)) (sym is) (length-flat_map-take f xs i x lt)
 
   -- one record more, in a buffer that has those before it at its front
   pub put_more :
