@@ -3,11 +3,15 @@ use Rattle.std.proofs.Common.{◌≡◌, ℕ, Bool, true, not, ◌&&◌, ◌||�
 use Rattle.judging.specs.Judged.{same, least, greatest, possible, certain}
 use Rattle.judging.specs.Trees.{Term, Range, shift}
 
-module _ (D : List ℕ) (a : Range) (b : Term) (l g v : ℤ) (low : l ≡ least D b) (high : g ≡ greatest D b) (one : true ≡ same l g) where
-  pub shifted_possible : possible D (shift a b) v ≡ possible D a (v -ℤ l)
+module _ (D : List ℕ) (r a : Range) (b : Term) (by v : ℤ) (says : r ≡ shift a b) (one : same (least D b) (greatest D b) ≡ true) (is : by ≡ least D b) where
+  pub shifted_possible : possible D a (v -ℤ by) ≡ possible D r v
   shifted_possible =
-      ap₂ (λ (x y : ℤ). not (same x y) || possible D a (v -ℤ x)) (sym low) (sym high) ∙ ap (λ (t : Bool). not t || possible D a (v -ℤ l)) (sym one)
+      sym
+      (ap (λ (x : Range). possible D x v) says
+      ∙ ap₂ (λ (t : Bool) (x : ℤ). not t || possible D a (v -ℤ x)) one (sym is))
 
-  pub shifted_certain : certain D (shift a b) v ≡ certain D a (v -ℤ l)
+  pub shifted_certain : certain D a (v -ℤ by) ≡ certain D r v
   shifted_certain =
-      ap₂ (λ (x y : ℤ). same x y && certain D a (v -ℤ x)) (sym low) (sym high) ∙ ap (λ (t : Bool). t && certain D a (v -ℤ l)) (sym one)
+      sym
+      (ap (λ (x : Range). certain D x v) says
+      ∙ ap₂ (λ (t : Bool) (x : ℤ). t && certain D a (v -ℤ x)) one (sym is))

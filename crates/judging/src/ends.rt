@@ -1,5 +1,5 @@
 // The ends of a term, reckoned from the ends of the terms that it is made of.
-ghost use Rattle.std.specs.Prelude.{◌≡◌, ◌*◌, ◌≤◌, pos, ◌+ℤ◌, ◌-ℤ◌, ◌*ℤ◌, if◌then◌else◌, int_lt, unsigned_abs};
+ghost use Rattle.std.specs.Prelude.{◌≡◌, ◌*◌, ◌≤◌, pos, ◌+ℤ◌, ◌-ℤ◌, ◌*ℤ◌, if◌then◌else◌, int_lt, unsigned_abs, is_some, IfSome};
 ghost use Rattle.judging.specs.Bounds.{Sixteenth};
 ghost use Rattle.judging.specs.Judged.{same};
 ghost use Rattle.judging.specs.Known.{Divisor};
@@ -99,11 +99,12 @@ impl Ends {
         }
     }
 
-    // Whether the term has one value.
-    pub(crate) fn is_fixed(self) -> bool
-        ensures { result ≡ same self.least self.greatest }
+    // The term's value, if it has just one.
+    pub(crate) fn fixed(self) -> Option<i64>
+        ensures one { is_some result ≡ same self.least self.greatest }
+        ensures value { IfSome result (λ v. v ≡ self.least) }
     {
-        self.least == self.greatest
+        (self.least == self.greatest).then_some(self.least)
     }
 
     // A remainder is known where the term has one value; otherwise it lies between 0 and k - 1.
@@ -112,13 +113,12 @@ impl Ends {
         ensures least { result.least ≡ (if same self.least self.greatest then int_rem_euclid self.least k else pos 0) }
         ensures greatest { result.greatest ≡ (if same self.least self.greatest then int_rem_euclid self.least k else k -ℤ pos 1) }
     {
-        if self.is_fixed() {
-            Ends::of_number(self.least.rem_euclid(k))
-        } else {
-            Ends {
+        match self.fixed() {
+            Some(value) => Ends::of_number(value.rem_euclid(k)),
+            None => Ends {
                 least: 0,
                 greatest: k - 1,
-            }
+            },
         }
     }
 }

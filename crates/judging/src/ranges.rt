@@ -25,10 +25,10 @@ impl JudgedNode<'_> {
             Form::Union(a, b) => self.named(a).possible(v) || self.named(b).possible(v),
             Form::Intersection(a, b) => self.named(a).possible(v) && self.named(b).possible(v),
             Form::Complement(a) => !self.named(a).certain(v),
-            Form::Shift(a, b) => {
-                let by = self.named(b).ends();
-                !by.is_fixed() || self.named(a).possible(v - by.least)
-            }
+            Form::Shift(a, b) => match self.named(b).ends().fixed() {
+                Some(by) => self.named(a).possible(v - by),
+                None => true,
+            },
             _ => unreachable(),
         }
     }
@@ -50,10 +50,10 @@ impl JudgedNode<'_> {
             Form::Union(a, b) => self.named(a).certain(v) || self.named(b).certain(v),
             Form::Intersection(a, b) => self.named(a).certain(v) && self.named(b).certain(v),
             Form::Complement(a) => !self.named(a).possible(v),
-            Form::Shift(a, b) => {
-                let by = self.named(b).ends();
-                by.is_fixed() && self.named(a).certain(v - by.least)
-            }
+            Form::Shift(a, b) => match self.named(b).ends().fixed() {
+                Some(by) => self.named(a).certain(v - by),
+                None => false,
+            },
             _ => unreachable(),
         }
     }
