@@ -71,6 +71,7 @@ pub enum PlanFault {
     TooShort,
 }
 
+// The three `From` are written by hand: a derived one has no contract, and the clauses above name the fault that a `?` makes.
 impl From<BytesFault> for SheetFault {
     ghost from_gives = { λ e r. r ≡ Bytes e };
 
@@ -120,6 +121,7 @@ impl BytesFault {
 }
 
 impl Flaw {
+    // The numbers are told by a `match`: as discriminants two of them could not be made the same, and no proof would be asked.
     pub fn number(&self) -> u8
         ensures { result ≡ number_of self.now }
     {

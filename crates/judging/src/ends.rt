@@ -18,6 +18,7 @@ fn times(k: i64, end: i64) -> i64
     k * end
 }
 
+// Three of these ask that 16 times an end is within the limits. A type for such ends would be made and opened again in the same arm of a `match`.
 impl Ends {
     // A number is both of its ends.
     pub(crate) fn of_number(k: i64) -> Ends

@@ -11,6 +11,7 @@ use crate::node::JudgedNode;
 use crate::sets::passing;
 use crate::values::{Domains, Ends, Judge};
 
+// What asks for possible and for certain comes in two, and shares what it can: `range` and `passing`.
 impl<'a> Judge<'a> {
     // The same sheet, judged on other channels.
     pub fn on(self, domains: &'a Domains) -> Judge<'a>
@@ -24,6 +25,7 @@ impl<'a> Judge<'a> {
     fn node(self, number: u8) -> Option<JudgedNode<'a>>
         ensures { Finds (nat_lt number (vec_len self.entry.sheet.now.nodes)) self.entry number result }
     {
+        // No `bool::then`: its closure would need a `requires` of its own.
         let number = usize::from(number);
         if number < self.sheet.nodes.len() {
             Some(JudgedNode {

@@ -7,6 +7,7 @@ use crate::node::JudgedNode;
 use masks::{has, only};
 use sheet::Form;
 
+// Two functions for the two words, since in a complement each asks the other.
 impl JudgedNode<'_> {
     // Whether v is possible in the node, which is a range.
     #[cycle(possible_and_certain)]

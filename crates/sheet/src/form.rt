@@ -44,6 +44,7 @@ pub enum Rule {
 }
 
 // What a byte of a record stands for: nothing (it has to be 0), a station, a term's node or a range's.
+// That it has to be 0 is asked of it like the rest, so it is a case, and no `Option` round the others.
 #[derive(Clone, Copy, Debug, PartialEq, Eq)]
 pub enum Slot {
     Nothing,
@@ -61,7 +62,7 @@ pub struct Shape {
     pub greatest: i16,
 }
 
-// The fields of a node's record: its kind, two bytes and a number.
+// The fields of a node's record: its kind, as the number that stands there, two bytes and a number.
 #[derive(Clone, Copy, Debug, PartialEq, Eq)]
 pub struct Fields {
     pub kind: u8,

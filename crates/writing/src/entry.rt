@@ -61,6 +61,7 @@ pub(crate) fn put_all<const N: usize, T: Entry<N>>(items: &[T], out: &mut [u8]) 
     ensures put { out.new ≡ flat_map T.bytes items.now ++ drop (length (flat_map T.bytes items.now)) out.old }
     ensures end { result ≡ length (flat_map T.bytes items.now) }
 {
+    // Where the next record goes is kept by hand: behind a loop over chunks of the buffer nothing is known of their bytes.
     let mut end = 0;
     for item in items {
         let record = item.record();
