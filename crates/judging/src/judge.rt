@@ -25,16 +25,12 @@ impl<'a> Judge<'a> {
     fn node(self, number: u8) -> Option<JudgedNode<'a>>
         ensures { Finds (nat_lt number (vec_len self.entry.sheet.now.nodes)) self.entry number result }
     {
-        // No `bool::then`: its closure would need a `requires` of its own.
         let number = usize::from(number);
-        if number < self.sheet.nodes.len() {
-            Some(JudgedNode {
-                judge: self,
-                number,
-            })
-        } else {
-            None
-        }
+        self.sheet.nodes.get(number)?;
+        Some(JudgedNode {
+            judge: self,
+            number,
+        })
     }
 
     // Node `number`, if the sheet has it and it is a term.

@@ -1,6 +1,5 @@
 // Terms, ranges and what rules leave, judged one by one: station 0 is on 1 and 3, station 1 on 4 alone.
-use crate::sheets::{Number, Term, misjudged_number, misjudged_term, sheet_of};
-use judging::{Judge, sheet_channels};
+use crate::sheets::{Number, Term, TestSheet, misjudged_number, misjudged_term};
 use sheet_tests::Row;
 use sheet_tests::Row::{Nd, Ru, St};
 use std::test::Fail;
@@ -48,11 +47,8 @@ static TERMS: [Term; 5] = [
 
 #[test]
 fn ends_of_terms(rt: HostRuntime) -> Result<(), Fail> {
-    let sheet = sheet_of(rt.alloc(), &ROWS)?;
-    let judge = Judge {
-        sheet: &sheet,
-        domains: &sheet_channels(&sheet),
-    };
+    let sheet = TestSheet::new(rt.alloc(), &ROWS)?;
+    let judge = sheet.judge();
     assert_eq!(rt; misjudged_term(judge, &TERMS), None);
     // a range, and a node that is not there
     assert_eq!(rt; judge.ends(7), None);
@@ -96,11 +92,8 @@ static RANGES: [Number; 27] = [
 
 #[test]
 fn numbers_in_ranges(rt: HostRuntime) -> Result<(), Fail> {
-    let sheet = sheet_of(rt.alloc(), &ROWS)?;
-    let judge = Judge {
-        sheet: &sheet,
-        domains: &sheet_channels(&sheet),
-    };
+    let sheet = TestSheet::new(rt.alloc(), &ROWS)?;
+    let judge = sheet.judge();
     assert_eq!(rt; misjudged_number(judge, &RANGES), None);
     // a term, and a node that is not there
     assert_eq!(rt; judge.possible(0, 0), None);
@@ -110,11 +103,8 @@ fn numbers_in_ranges(rt: HostRuntime) -> Result<(), Fail> {
 
 #[test]
 fn what_rules_leave(rt: HostRuntime) -> Result<(), Fail> {
-    let sheet = sheet_of(rt.alloc(), &ROWS)?;
-    let judge = Judge {
-        sheet: &sheet,
-        domains: &sheet_channels(&sheet),
-    };
+    let sheet = TestSheet::new(rt.alloc(), &ROWS)?;
+    let judge = sheet.judge();
     // of 1 and 3 only 3 is from 3 upwards: the set 8
     let only_three = Some(Narrowed {
         station: 0,

@@ -1,6 +1,5 @@
 // Verdicts in a sheet's own channels, before anything is settled: no report can show a broken rule, since it leaves nothing settled.
-use crate::sheets::sheet_of;
-use judging::{Judge, sheet_channels};
+use crate::sheets::TestSheet;
 use sheet_tests::Row;
 use sheet_tests::Row::{Nd, Ru, St};
 use std::alloc::Global;
@@ -10,12 +9,8 @@ use verdicts::{Verdict, verdict};
 
 // The verdict on a rule of some rows, in the channels that they give their stations.
 fn verdict_of(heap: Global, rows: &[Row], rule: usize) -> Result<Option<Verdict>, Fail> {
-    let sheet = sheet_of(heap, rows)?;
-    let judge = Judge {
-        sheet: &sheet,
-        domains: &sheet_channels(&sheet),
-    };
-    Ok(verdict(judge, rule))
+    let sheet = TestSheet::new(heap, rows)?;
+    Ok(verdict(sheet.judge(), rule))
 }
 
 // A station's channels, and the verdict on its being from 1 upwards.

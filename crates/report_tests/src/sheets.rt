@@ -1,5 +1,5 @@
 // A sheet that a test judges, and what is wanted of its terms and ranges.
-use judging::{Ends, Judge};
+use judging::{Domains, Ends, Judge, sheet_channels};
 use reading::read;
 use sheet::Sheet;
 use sheet_tests::{Row, bytes_of};
@@ -12,9 +12,27 @@ pub(crate) type Term = (u8, i64, i64);
 // A range's node, a number, whether it is possible there, and whether it is certain.
 pub(crate) type Number = (u8, i32, bool, bool);
 
-pub(crate) fn sheet_of(heap: Global, rows: &[Row]) -> Result<Sheet, Fail> {
-    let bytes = bytes_of(heap, rows)?;
-    Ok(read(heap, bytes.as_slice())?)
+// A sheet of a test, and its own channels.
+#[derive(Drop)]
+pub(crate) struct TestSheet {
+    sheet: Sheet,
+    domains: Domains,
+}
+
+impl TestSheet {
+    pub(crate) fn new(heap: Global, rows: &[Row]) -> Result<TestSheet, Fail> {
+        let bytes = bytes_of(heap, rows)?;
+        let sheet = read(heap, bytes.as_slice())?;
+        let domains = sheet_channels(&sheet);
+        Ok(TestSheet { sheet, domains })
+    }
+
+    pub(crate) fn judge(&self) -> Judge<'_> {
+        Judge {
+            sheet: &self.sheet,
+            domains: &self.domains,
+        }
+    }
 }
 
 // The first of some terms whose ends are judged otherwise.

@@ -1,6 +1,5 @@
 // Negative terms, and ranges that reach beyond the channels: station 0 is on 1 and 3, station 1 on 0 and 63.
-use crate::sheets::{Number, Term, misjudged_number, misjudged_term, sheet_of};
-use judging::{Judge, sheet_channels};
+use crate::sheets::{Number, Term, TestSheet, misjudged_number, misjudged_term};
 use sheet_tests::Row;
 use sheet_tests::Row::{Nd, St};
 use std::test::Fail;
@@ -69,11 +68,8 @@ static TERMS: [Term; 13] = [
 
 #[test]
 fn ends_of_negative_terms(rt: HostRuntime) -> Result<(), Fail> {
-    let sheet = sheet_of(rt.alloc(), &ROWS)?;
-    let judge = Judge {
-        sheet: &sheet,
-        domains: &sheet_channels(&sheet),
-    };
+    let sheet = TestSheet::new(rt.alloc(), &ROWS)?;
+    let judge = sheet.judge();
     assert_eq!(rt; misjudged_term(judge, &TERMS), None);
     Ok(())
 }
@@ -117,11 +113,8 @@ static RANGES: [Number; 30] = [
 
 #[test]
 fn numbers_beyond_the_channels(rt: HostRuntime) -> Result<(), Fail> {
-    let sheet = sheet_of(rt.alloc(), &ROWS)?;
-    let judge = Judge {
-        sheet: &sheet,
-        domains: &sheet_channels(&sheet),
-    };
+    let sheet = TestSheet::new(rt.alloc(), &ROWS)?;
+    let judge = sheet.judge();
     assert_eq!(rt; misjudged_number(judge, &RANGES), None);
     Ok(())
 }
@@ -150,11 +143,8 @@ static SETS: [(u8, u64, u64, u64); 6] = [
 
 #[test]
 fn channels_in_ranges(rt: HostRuntime) -> Result<(), Fail> {
-    let sheet = sheet_of(rt.alloc(), &ROWS)?;
-    let judge = Judge {
-        sheet: &sheet,
-        domains: &sheet_channels(&sheet),
-    };
+    let sheet = TestSheet::new(rt.alloc(), &ROWS)?;
+    let judge = sheet.judge();
     for (node, set, may, must) in SETS {
         assert_eq!(rt; judge.possible_among(node, set), Some(may), "node {node}");
         assert_eq!(rt; judge.certain_among(node, set), Some(must), "node {node}");
