@@ -95,20 +95,20 @@ module _ (n : ℕ) (nodes : List Node) (each : (i : ℕ) → i < length nodes �
       let p = reached (suc i) i (omega arith) h in
       record { low = subst (λ (z : ℤ). nat_abs z ≤ bound (depth_at nodes i)) (sym l) p.low; high = subst (λ (z : ℤ). nat_abs z ≤ bound (depth_at nodes i)) (sym g) p.high }
 
-pub within_bound : (x : JudgedNode) (e : Ends) → e.least ≡ least x.judge.domains.now (node_term x) → e.greatest ≡ greatest x.judge.domains.now (node_term x) → Bounded (bound (node_depth x)) e
+pub within_bound : (x : JudgedNode) (e : Ends) → e.least ≡ least x.judge.now.domains.now (node_term x) → e.greatest ≡ greatest x.judge.now.domains.now (node_term x) → Bounded (bound (node_depth x)) e
 within_bound x e l g =
-    let s = x.judge.sheet.now in
-    ends_within _ _ (known _ _ s.few_stations s.nodes_sound) x.judge.domains.now x.number (omega (arith, s.nodes.ok, x.there)) e l g
+    let s = x.judge.now.sheet.now in
+    ends_within _ _ (known _ _ s.few_stations s.nodes_sound) x.judge.now.domains.now x.number (omega (arith, s.nodes.ok, x.there)) e l g
 
 -- so no node's ends leave the widest limits
 pub within_limits : (x : JudgedNode) (e : Ends) → Bounded (bound (node_depth x)) e → Bounded 268435456000 e
 within_limits x e p =
-    let s = x.judge.sheet.now in
+    let s = x.judge.now.sheet.now in
     let b : bound (node_depth x) ≤ 268435456000 = bounded_depth _ _ s.nodes_sound x.number (omega (arith, s.nodes.ok, x.there)) in
     record { low = omega (arith, p.low); high = omega (arith, p.high) }
 
 -- a node is at most 8 deep
 pub shallow : (x : JudgedNode) → node_depth x ≤ 8
 shallow x =
-    let s = x.judge.sheet.now in
+    let s = x.judge.now.sheet.now in
     (depths _ _ s.nodes_sound x.number (omega (arith, s.nodes.ok, x.there))).1

@@ -22,8 +22,8 @@ impl<'a> Judge<'a> {
     }
 
     // Node `number`, if the sheet has it.
-    fn node(self, number: u8) -> Option<JudgedNode<'a>>
-        ensures { Finds (nat_lt number (vec_len self.entry.sheet.now.nodes)) self.entry number result }
+    fn node(&self, number: u8) -> Option<JudgedNode<'_>>
+        ensures { Finds (nat_lt number (vec_len self.now.sheet.now.nodes)) self.now number result }
     {
         let number = usize::from(number);
         self.sheet.nodes.get(number)?;
@@ -34,15 +34,15 @@ impl<'a> Judge<'a> {
     }
 
     // Node `number`, if the sheet has it and it is a term.
-    fn term(self, number: u8) -> Option<JudgedNode<'a>>
-        ensures { Finds (has_term (nodes_of self.entry) number) self.entry number result }
+    fn term(&self, number: u8) -> Option<JudgedNode<'_>>
+        ensures { Finds (has_term (nodes_of self.now) number) self.now number result }
     {
         self.node(number).filter(|node| node.is_term())
     }
 
     // Node `number`, if the sheet has it and it is a range.
-    fn range(self, number: u8) -> Option<JudgedNode<'a>>
-        ensures { Finds (has_range (nodes_of self.entry) number) self.entry number result }
+    fn range(&self, number: u8) -> Option<JudgedNode<'_>>
+        ensures { Finds (has_range (nodes_of self.now) number) self.now number result }
     {
         self.node(number).filter(|node| !node.is_term())
     }

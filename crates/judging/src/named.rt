@@ -26,7 +26,7 @@ impl<'a> JudgedNode<'a> {
     // An earlier node, as this one names it.
     pub(crate) fn named(self, number: u8) -> JudgedNode<'a>
         requires { number < self.number }
-        ensures judge { result.judge ≡ self.entry.judge }
+        ensures judge { result.judge.now ≡ self.entry.judge.now }
         ensures number { result.number ≡ number }
     {
         JudgedNode {

@@ -3,10 +3,10 @@ ghost use Rattle.std.specs.Prelude.{◌<◌, vec_len};
 
 use crate::values::Judge;
 
-// A node that is there, by its number.
+// A node that is there, by its number. It borrows its judge, so that it is as small as a slice: judging passes nodes down a tree, one call a node.
 #[derive(Clone, Copy)]
 pub(crate) struct JudgedNode<'a> {
-    pub(crate) judge: Judge<'a>,
+    pub(crate) judge: &'a Judge<'a>,
     pub(crate) number: usize,
-    ghost there: { number < vec_len judge.sheet.now.nodes },
+    ghost there: { number < vec_len judge.now.sheet.now.nodes },
 }

@@ -14,7 +14,7 @@ impl JudgedNode<'_> {
     pub(crate) fn possible(self, v: i64) -> bool
         requires sort { node_is_term self ≡ false }
         requires near { unsigned_abs v + node_depth self * 268435456000 ≤ 2 ^ 62 }
-        ensures { result ≡ judged.possible self.entry.judge.domains.now (node_range self.entry) v }
+        ensures { result ≡ judged.possible self.entry.judge.now.domains.now (node_range self.entry) v }
     {
         match self.form() {
             Form::Between(a, b) => {
@@ -39,7 +39,7 @@ impl JudgedNode<'_> {
     pub(crate) fn certain(self, v: i64) -> bool
         requires sort { node_is_term self ≡ false }
         requires near { unsigned_abs v + node_depth self * 268435456000 ≤ 2 ^ 62 }
-        ensures { result ≡ judged.certain self.entry.judge.domains.now (node_range self.entry) v }
+        ensures { result ≡ judged.certain self.entry.judge.now.domains.now (node_range self.entry) v }
     {
         match self.form() {
             Form::Between(a, b) => {

@@ -12,8 +12,8 @@ impl JudgedNode<'_> {
     // The ends of the node, which is a term.
     pub(crate) fn ends(self) -> Ends
         requires { node_is_term self ≡ true }
-        ensures least { result.least ≡ judged.least self.entry.judge.domains.now (node_term self.entry) }
-        ensures greatest { result.greatest ≡ judged.greatest self.entry.judge.domains.now (node_term self.entry) }
+        ensures least { result.least ≡ judged.least self.entry.judge.now.domains.now (node_term self.entry) }
+        ensures greatest { result.greatest ≡ judged.greatest self.entry.judge.now.domains.now (node_term self.entry) }
         ensures within { Bounded (bound (node_depth self.entry)) result }
     {
         match self.form() {

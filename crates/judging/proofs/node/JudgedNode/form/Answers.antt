@@ -10,7 +10,7 @@ use Rattle.judging.proofs.node.JudgedNode.form.Goals as goal
 pub returns : goal.returns
 returns c =
     let x = c.args.self in
-    let s = x.judge.sheet.now in
+    let s = x.judge.now.sheet.now in
     let nodes = s.nodes.items in
     let h : x.number < length nodes = omega (arith, s.nodes.ok) in
     let k = known s.stations.len nodes s.few_stations s.nodes_sound in
