@@ -3,7 +3,7 @@ ghost use Rattle.std.specs.Prelude.{◌<◌, vec_len};
 
 use crate::values::Judge;
 
-// A node that is there, by its number. It borrows its judge, so that it is as small as a slice: judging passes nodes down a tree, one call a node.
+// A node that is there, by its number. It borrows its judge, so that it is two words, which go from call to call in registers.
 #[derive(Clone, Copy)]
 pub(crate) struct JudgedNode<'a> {
     pub(crate) judge: &'a Judge<'a>,
